@@ -24,10 +24,11 @@ def available():
 
 
 class Lanes:
-    """How many checks run now. `is_quiet` is set once `rt ci` has ended, or if it doesn't run."""
+    """How many checks run now, and the weights of those that wait, of which the heaviest is next: a long check that begins late
+    ends last. `is_quiet` is set once `rt ci` has ended, or if it doesn't run."""
 
     def __init__(self):
-        self.running, self.changed, self.is_quiet = 0, threading.Condition(), threading.Event()
+        self.running, self.waiting, self.changed, self.is_quiet = 0, [], threading.Condition(), threading.Event()
         self.is_quiet.set()
 
     def has_room(self):
@@ -38,11 +39,13 @@ class Lanes:
         return is_there or not self.running and not beside
 
     @contextlib.contextmanager
-    def one(self):
-        """Waits for room for a check, and tells whether it is beside `rt ci`."""
+    def one(self, weight):
+        """Waits for room for a check of this weight, and tells whether it is beside `rt ci`."""
         with self.changed:
-            while not self.has_room():
+            self.waiting.append(weight)
+            while weight < max(self.waiting) or not self.has_room():
                 self.changed.wait(1.0)
+            self.waiting.remove(weight)
             self.running += 1
         try:
             yield not self.is_quiet.is_set()
@@ -63,10 +66,10 @@ class Lanes:
         process.returncode = os.waitstatus_to_exitcode(ended[1])
         return ended[2].ru_utime + ended[2].ru_stime
 
-    def run(self, words, folder):
+    def run(self, words, folder, weight):
         """What a check says, and its seconds. One that is killed beside `rt ci` is run again once that has ended."""
         while True:
-            with self.one() as beside, tempfile.TemporaryFile("w+", errors="replace") as told:
+            with self.one(weight) as beside, tempfile.TemporaryFile("w+", errors="replace") as told:
                 how = {"cwd": folder, "stdin": subprocess.DEVNULL, "stdout": told, "stderr": subprocess.STDOUT}
                 process = subprocess.Popen([*GIVING_WAY, *words] if beside else words, **how)
                 seconds = self.end(process, beside)

@@ -5,6 +5,7 @@ import pathlib
 import subprocess
 import sys
 import tempfile
+import time
 import unittest
 from unittest import mock
 
@@ -264,7 +265,7 @@ class Lanes(Case):
         self.enterContext(mock.patch.multiple(lanes, available=lambda: 1 << 40))
         with tempfile.TemporaryDirectory() as room:
             wrong_bodies.threading.Timer(0.5, lane.is_quiet.set).start()
-            said, _ = lane.run(["sh", "-c", "[ -e killed ] && echo judged; touch killed; kill -9 $$"], room)
+            said, _ = lane.run(["sh", "-c", "[ -e killed ] && echo judged; touch killed; kill -9 $$"], room, 1)
         self.assertEqual(said, "judged\n")
 
     def test_beside_rt_ci_there_is_less_room(self):
@@ -277,6 +278,21 @@ class Lanes(Case):
         self.assertTrue(lane.has_room())
         lane.running = max(len(os.sched_getaffinity(0)) - 1, 1)
         self.assertFalse(lane.has_room())
+
+    def test_of_the_checks_that_wait_the_heaviest_begins_first(self):
+        lane, began, weights, is_free = lanes.Lanes(), [], [1, 3, 2], wrong_bodies.threading.Event()
+        lane.has_room = lambda: is_free.is_set() and not lane.running
+
+        def begin(weight):
+            with lane.one(weight):
+                began.append(weight)
+
+        with wrong_bodies.ThreadPoolExecutor(len(weights)) as pool:
+            every = [pool.submit(begin, weight) for weight in weights]
+            while len(lane.waiting) < len(weights) and not any(it.done() for it in every):
+                time.sleep(0.01)
+            is_free.set()
+        self.assertEqual(began, [3, 2, 1])
 
 
 class Heard(Case):

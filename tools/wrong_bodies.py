@@ -138,7 +138,8 @@ def words_of_check(folder, functions):
 
 def check(folder, functions):
     """What a check of these functions says; its seconds of the processors are told."""
-    said, seconds = LANES.run(words_of_check(folder, functions), folder)
+    words = words_of_check(folder, functions)
+    said, seconds = LANES.run(words, folder, len(functions) * words.count("--extern"))
     tell([f"{folder.name}: a check of {len(functions)} functions took {seconds:.0f} s"], sys.stderr)
     return said
 
