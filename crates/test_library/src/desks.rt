@@ -8,7 +8,7 @@ ghost use Rattle.gopher_crew.specs.Desk.{IsBlankOf};
 use crate::fetcher::Fetcher;
 use crate::opening::{again, book_of, opened, push, query, scope};
 use crate::requests::{CLOSED, EARLY, LATE, replies, served};
-use gopher_catalogue::{Turn, Why};
+use gopher_catalogue::{Hit, Turn, Why};
 use gopher_crew::{Blank, Crew, Desk, Note, Pass, Share, Stop, work};
 use gopher_item::Place;
 use gopher_page::{Page, Query};
@@ -40,16 +40,21 @@ struct Room<'a, C: Crew, R: Wait> {
     query: Query,
 }
 
-// How many events a pass sees, and whether it finds the page of the root, or else none.
-fn sees<C: Crew, R: Abort>(rt: &R, pass: &mut Pass<C>, query: &Query) -> (u32, bool) {
-    let answer = again!(rt, pass.search(query).ok());
-    let [hit] = answer.hits.as_slice() else {
-        assert!(rt; answer.hits.is_empty());
-        return (answer.at, false);
+// Whether hits are the page of the root, or else none.
+fn are_of_root<R: Abort>(rt: &R, hits: &[Hit]) -> bool {
+    let [hit] = hits else {
+        assert!(rt; hits.is_empty());
+        return false;
     };
     assert!(rt; hit.place.selector().is_empty() && hit.score == 1);
     assert!(rt; hit.title.as_slice() == b"Docs".as_slice());
-    (answer.at, true)
+    true
+}
+
+// How many events a pass sees, and whether it finds the page of the root.
+fn sees<C: Crew, R: Abort>(rt: &R, pass: &mut Pass<C>, query: &Query) -> (u32, bool) {
+    let answer = again!(rt, pass.search(query).ok());
+    (answer.at, are_of_root(rt, &answer.hits))
 }
 
 impl<C: Crew, R: Wait + Abort + AllocGlobal> Room<'_, C, R> {

@@ -66,12 +66,17 @@ pub fn query<R: Abort + AllocGlobal>(rt: &R, text: &[u8]) -> Query
     again!(rt, Query::read(rt.alloc(), text).ok())
 }
 
-/// A copy of a book that took in a record. Places fail only because memory ran out.
+// Takes an event into a book. A place fails only because memory ran out.
+fn take_in<R: Abort>(rt: &R, book: &mut Book, event: &Event) {
+    assert!(rt; !matches!(event, Event::Failed(_, why) if *why != Why::NoMemory));
+    again!(rt, book.take_in(event).ok());
+}
+
+/// A copy of a book that took in a record.
 pub fn book_of<R: Abort + AllocGlobal>(rt: &R, record: &[Event]) -> Book {
     let mut book = Book::empty(rt.alloc());
     for event in record {
-        assert!(rt; !matches!(event, Event::Failed(_, why) if *why != Why::NoMemory));
-        again!(rt, book.take_in(event).ok());
+        take_in(rt, &mut book, event);
     }
     assert!(rt; book.len() == record.len());
     again!(rt, book.clone().ok())
