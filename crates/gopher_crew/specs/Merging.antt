@@ -1,5 +1,5 @@
 -- When workers may merge pages.
-use Rattle.std.specs.Prelude.{ℕ, Bool, true, false, nat_le, nat_lt, if◌then◌else◌}
+use Rattle.std.specs.Prelude.{ℕ, ◌+◌, Bool, true, false, nat_le, nat_lt, min, if◌then◌else◌}
 use Rattle.gopher_crew.specs.declared.working.merging.Merging.{Merging}
 
 -- whether no place waits and none is out, or a run was merged since that was so
@@ -16,5 +16,8 @@ may_merge merging waiting out found =
     else (if nat_lt 0 out then false
     else (if merging.is_last_taken then false else nat_le merging.retry_at found))
 
-abbrev pub is_merged_after : Merging → Bool → Bool
-is_merged_after merging was_merged = if was_merged then true else merging.is_merged
+-- no pages are merged before this number of pages was found: 64 more after a merge that ran out of
+-- memory
+abbrev pub retry_after : Merging → Bool → ℕ → ℕ
+retry_after merging was_merged found =
+    if was_merged then merging.retry_at else min (found + 64) 18446744073709551615

@@ -280,7 +280,7 @@ impl<C: Crew, R: Wait + Drop> Desk<C, R> {
     ///
     /// # Errors
     /// `NoMemory` (90), only if a place waits.
-    #[tactic(auto, using(crate::proofs::Keeping::later_holds, crate::proofs::Prefixes::prefix_self, crate::proofs::Prefixes::prefix_trans))]
+    #[tactic(auto)]
     pub(crate) fn next<W: Wait>(
         &self,
         rt: &W,

@@ -1,6 +1,6 @@
 //! `Publication`: enters a catalogue's record into the crew's history, and publishes it.
 
-ghost use Rattle.std.specs.Prelude.{◌≡◌, ◌≢◌, [], IsTrue, MatchBool, map};
+ghost use Rattle.std.specs.Prelude.{◌≡◌, ◌≢◌, false, [], IsTrue, map};
 ghost use mathlib.Core.List.{IsPrefix};
 ghost use Rattle.gopher_catalogue.specs.EventOf.{event_data};
 ghost use Rattle.gopher_crew.specs.Crew.{Rises};
@@ -184,8 +184,8 @@ impl<C: Crew, R: Wait + Drop> Publication<C, R> {
 
     // Returns whether the record that was entered is published.
     fn is_shown(&self) -> bool
-        ensures { MatchBool result (self.now.published ≡ self.now.events)
-            (self.now.published ≢ self.now.events) }
+        ensures shown { IsTrue result → self.now.published ≡ self.now.events }
+        ensures or_else { (result ≡ false) → self.now.published ≢ self.now.events }
     {
         if self.writer.published().prefix().len() < self.prefix.len() {
             return false;

@@ -1,7 +1,7 @@
 //! `Merging`: when workers may merge pages, and whether merged pages are still to be published.
 
-ghost use Rattle.std.specs.Prelude.{◌≡◌, ◌+◌, ◌-◌, ◌^◌, min, not, false, if◌then◌else◌};
-ghost use Rattle.gopher_crew.specs.Merging.{is_at_last, is_merged_after, may_merge};
+ghost use Rattle.std.specs.Prelude.{◌≡◌, ◌||◌, not, false};
+ghost use Rattle.gopher_crew.specs.Merging.{is_at_last, may_merge, retry_after};
 
 // After a merge runs out of memory, merging is tried again when this number of pages was found.
 const PAGES_UNTIL_RETRY: usize = 64;
@@ -44,7 +44,10 @@ impl Merging {
         if waiting > 0 {
             return self.retry_at <= found;
         }
-        if out > 0 || self.is_last_taken {
+        if out > 0 {
+            return false;
+        }
+        if self.is_last_taken {
             return false;
         }
         self.is_last_taken = true;
@@ -54,9 +57,8 @@ impl Merging {
     /// Records the end of a merge, and how many pages were found by then. If memory ran out, the
     /// next waits until 64 more are found.
     pub fn end_merge(&mut self, was_merged: bool, found: usize)
-        ensures merged { self.new.is_merged ≡ is_merged_after self.old was_merged }
-        ensures retry { self.new.retry_at
-            ≡ (if was_merged then self.old.retry_at else min (found + 64) (2 ^ 64 - 1)) }
+        ensures merged { self.new.is_merged ≡ (was_merged || self.old.is_merged) }
+        ensures retry { self.new.retry_at ≡ retry_after self.old was_merged found }
         ensures last { self.new.is_last_taken ≡ self.old.is_last_taken }
     {
         if was_merged {
