@@ -5,13 +5,12 @@ use Rattle.std.specs.Io.KnownBytes.{Appends, Keeps}
 use Rattle.std.proofs.KnownBytes.{Appends-trans, Appends-kept}
 use Rattle.gopher_item.specs.Place.{HomeData}
 use Rattle.gopher_scope.specs.declared.settings.Settings.{Settings}
-use Rattle.gopher_text.specs.Watched.{WatchedData}
+use Rattle.gopher_text.specs.Watched.{WatchedData, HasSent}
 use Rattle.gopher_catalogue.specs.declared.frontier.sizes.Status.{Status}
 use Rattle.gopher_catalogue.specs.declared.event.EventData.{EventData}
 use Rattle.gopher_crew.specs.Kept.{IsStatusAfter}
 use Rattle.gopher_script.specs.Answer.{status_line}
 use Rattle.gopher_hole.specs.Ending.{AreSettings, FoundSound, HasServed, HasWritten, listening_line, opening_record}
-use Rattle.gopher_hole.specs.Sending.{HasSent}
 
 -- bytes were sent, and then the writer was flushed
 pub sends_kept : (old mid new : Option (List ℕ)) (bytes : List ℕ) → Appends old mid bytes → Keeps mid new → Appends old new bytes

@@ -6,7 +6,7 @@ use Rattle.std.specs.Global.{Vec}
 use Rattle.std.specs.PromisedHandle.{KeepsEach}
 use Rattle.std.specs.declared.thread.Promise as Promise
 use Rattle.gopher_item.specs.Place.{HomeData}
-use Rattle.gopher_text.specs.Watched.{WatchedData}
+use Rattle.gopher_text.specs.Watched.{WatchedData, HasSent}
 use Rattle.gopher_scope.specs.Settings.{AreSettingsOf}
 use Rattle.gopher_scope.specs.declared.settings.Settings.{Settings}
 use Rattle.gopher_catalogue.specs.declared.frontier.sizes.Status.{Status}
@@ -16,7 +16,6 @@ use Rattle.gopher_crew.specs.Kept.{IsStatusAfter}
 use Rattle.gopher_script.specs.Answer.{status_line}
 use Rattle.gopher_server.specs.declared.server.ThreadEnd.{ThreadEnd}
 use Rattle.gopher_server.specs.declared.server.ThreadEnd.TheVariants as thread
-use Rattle.gopher_hole.specs.Sending.{HasSent}
 use Rattle.gopher_hole.specs.declared.starting.Started.{Started}
 use Rattle.gopher_hole.specs.declared.starting.ThreadsEnd.{ThreadsEnd}
 use Rattle.gopher_hole.specs.declared.fault.ProgramFault.{ProgramFault}

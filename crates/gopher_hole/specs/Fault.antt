@@ -60,15 +60,17 @@ detail_bytes (detail.File file) = codes " file " ++ decimal file
 detail_bytes (detail.Seed seed) = codes " seed " ++ decimal seed
 detail_bytes (detail.Line line) = codes " line " ++ decimal line
 
+abbrev pub details_bytes : Detail × Detail → List ℕ
+details_bytes details = detail_bytes details.0 ++ detail_bytes details.1
+
 -- the line of a number and two details
-abbrev pub line_bytes : ℕ → Detail → Detail → List ℕ
-line_bytes code first second =
-    (codes "hole: " ++ decimal code)
-    ++ ((detail_bytes first ++ detail_bytes second) ++ codes "\n")
+abbrev pub line_bytes : ℕ → Detail × Detail → List ℕ
+line_bytes code details =
+    (codes "hole: " ++ decimal code) ++ (details_bytes details ++ codes "\n")
 
 -- the line of a fault
 abbrev pub fault_line : ProgramFault → List ℕ
-fault_line why = line_bytes (program_fault_code why) (details_of why).0 (details_of why).1
+fault_line why = line_bytes (program_fault_code why) (details_of why)
 
 -- a place that failed so often before isn't tried again, if it is tried so often
 abbrev pub is_last_try : ℕ → ℕ → Bool

@@ -1,4 +1,3 @@
 pub mod Ending
 pub mod Fault
 pub mod Program
-pub mod Sending

@@ -1,11 +1,10 @@
 -- The program: its arguments, its exit status and its error stream.
 use Rattle.std.specs.Prelude.{◌≡◌, ℕ, ◌⊎◌, Bool, false, List, [], ◌∷◌, codes, nat_eq, Option, Result, Ok, Err}
 use Rattle.std.specs.Cmp.Lexicographic.{pointwise}
-use Rattle.gopher_text.specs.Watched.{WatchedData, HasFailed}
+use Rattle.gopher_text.specs.Watched.{WatchedData, HasSent, HasFailed}
 use Rattle.gopher_script.specs.Replay.{AppendsPart, Replays}
 use Rattle.gopher_script.specs.declared.fault.ReplayFault.{ReplayFault}
 use Rattle.gopher_hole.specs.Fault.{fault_line}
-use Rattle.gopher_hole.specs.Sending.{HasSent}
 use Rattle.gopher_hole.specs.declared.fault.ProgramFault.{ProgramFault}
 use Rattle.gopher_hole.specs.declared.fault.ProgramFault.TheVariants.{Replay}
 

@@ -4,9 +4,10 @@
 ghost use Rattle.std.specs.Prelude.{◌≡◌, ◌++◌, codes, IfOk, OnOk};
 ghost use Rattle.std.specs.Fmt.{decimal};
 ghost use Rattle.gopher_script.specs.Answer.{status_line};
+ghost use Rattle.gopher_script.specs.Replay.{SendsAnswer};
+ghost use Rattle.gopher_text.specs.Watched.{HasSent};
 ghost use Rattle.gopher_hole.specs.Ending.{listening_line};
-ghost use Rattle.gopher_hole.specs.Fault.{detail_bytes, line_bytes, fault_line};
-ghost use Rattle.gopher_hole.specs.Sending.{HasSent, SendEnds};
+ghost use Rattle.gopher_hole.specs.Fault.{detail_bytes, details_bytes, line_bytes, fault_line};
 
 use crate::fault::{Detail, ProgramFault};
 use gopher_catalogue::Status;
@@ -84,7 +85,7 @@ fn send_both<E: Write>(
     first: &[u8],
     second: &[u8],
 ) -> Result<(), ReplayFault>
-    ensures { SendEnds E.contents error.old error.new (first.now ++ second.now) result }
+    ensures { SendsAnswer E.contents (first.now ++ second.now) error.old error.new result }
 {
     if let Err(fault) = send_all(error, first) {
         return Err(fault);
@@ -98,7 +99,7 @@ fn write_number<E: Write>(
     front: &[u8],
     number: usize,
 ) -> Result<(), ReplayFault>
-    ensures { SendEnds E.contents error.old error.new (front.now ++ decimal number) result }
+    ensures { SendsAnswer E.contents (front.now ++ decimal number) error.old error.new result }
 {
     let mut digits = Buffer::new();
     send_both(error, front, digits.format(number).as_bytes())
@@ -106,7 +107,7 @@ fn write_number<E: Write>(
 
 // Writes a detail of a fault.
 fn write_detail<E: Write>(error: &mut Watched<E>, detail: Detail) -> Result<(), ReplayFault>
-    ensures { SendEnds E.contents error.old error.new (detail_bytes detail) result }
+    ensures { SendsAnswer E.contents (detail_bytes detail) error.old error.new result }
 {
     match detail {
         Detail::Nothing => send_all(error, b""),
@@ -120,28 +121,24 @@ fn write_detail<E: Write>(error: &mut Watched<E>, detail: Detail) -> Result<(), 
 // Writes two details of a fault.
 fn write_details<E: Write>(
     error: &mut Watched<E>,
-    first: Detail,
-    second: Detail,
+    details: (Detail, Detail),
 ) -> Result<(), ReplayFault>
-    ensures { SendEnds E.contents error.old error.new
-        (detail_bytes first ++ detail_bytes second) result }
+    ensures { SendsAnswer E.contents (details_bytes details) error.old error.new result }
 {
-    if let Err(fault) = write_detail(error, first) {
+    if let Err(fault) = write_detail(error, details.0) {
         return Err(fault);
     }
-    write_detail(error, second)
+    write_detail(error, details.1)
 }
 
 // Writes the rest of a fault's line after its number.
 fn write_rest<E: Write>(
     error: &mut Watched<E>,
-    first: Detail,
-    second: Detail,
+    details: (Detail, Detail),
 ) -> Result<(), ReplayFault>
-    ensures { SendEnds E.contents error.old error.new
-        ((detail_bytes first ++ detail_bytes second) ++ codes "\n") result }
+    ensures { SendsAnswer E.contents (details_bytes details ++ codes "\n") error.old error.new result }
 {
-    if let Err(fault) = write_details(error, first, second) {
+    if let Err(fault) = write_details(error, details) {
         return Err(fault);
     }
     send_all(error, b"\n")
@@ -151,15 +148,14 @@ fn write_rest<E: Write>(
 fn write_line<E: Write>(
     error: &mut Watched<E>,
     code: usize,
-    first: Detail,
-    second: Detail,
+    details: (Detail, Detail),
 ) -> Result<(), ReplayFault>
-    ensures { SendEnds E.contents error.old error.new (line_bytes code first second) result }
+    ensures { SendsAnswer E.contents (line_bytes code details) error.old error.new result }
 {
     if let Err(fault) = write_number(error, b"hole: ", code) {
         return Err(fault);
     }
-    write_rest(error, first, second)
+    write_rest(error, details)
 }
 
 /// Writes the line of a fault: its number, and what it says after the number.
@@ -168,8 +164,7 @@ fn write_line<E: Write>(
 ///
 /// `WriteFailed` (13): a prefix of the line was written.
 pub fn write_fault<E: Write>(error: &mut Watched<E>, fault: ProgramFault) -> Result<(), ReplayFault>
-    ensures { SendEnds E.contents error.old error.new (fault_line fault) result }
+    ensures { SendsAnswer E.contents (fault_line fault) error.old error.new result }
 {
-    let (first, second) = fault.details();
-    write_line(error, usize::from(fault.code()), first, second)
+    write_line(error, usize::from(fault.code()), fault.details())
 }

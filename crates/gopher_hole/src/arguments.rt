@@ -104,14 +104,17 @@ fn serve_command<'a>(alloc: Global) -> Result<Command<'a>, AllocError> {
     let log = "Append a line for each request to this file, or with - to standard error";
     let memory = "Leave out pages once they take this much memory, for example 64M (or K, G)";
     let numbers = value_parser!(u64).range(0..=MAX_REQUESTS);
+    let arguments = vec![in alloc;
+        settings_argument(alloc),
+        option(alloc, "listen", "ADDRESS", listen).action(ArgAction::Append),
+        option(alloc, "requests", "N", requests).value_parser(numbers),
+        option(alloc, "log", "FILE", log),
+        progress_argument(alloc),
+        option(alloc, "crawl-memory", "BYTES", memory),
+    ]?;
     Command::new(alloc, "serve")
         .about("Serve a folder, crawl the allowed hosts and answer searches")
-        .arg(settings_argument(alloc))?
-        .arg(option(alloc, "listen", "ADDRESS", listen).action(ArgAction::Append))?
-        .arg(option(alloc, "requests", "N", requests).value_parser(numbers))?
-        .arg(option(alloc, "log", "FILE", log))?
-        .arg(progress_argument(alloc))?
-        .arg(option(alloc, "crawl-memory", "BYTES", memory))
+        .args(arguments)
 }
 
 fn replay_command<'a>(alloc: Global) -> Command<'a> {
@@ -131,11 +134,18 @@ fn bare_command<'a>(alloc: Global) -> Result<Command<'a>, AllocError> {
     Ok(command)
 }
 
+// The program with another subcommand, unless one of the two couldn't be made.
+fn with_subcommand<'a>(
+    program: Result<Command<'a>, AllocError>,
+    subcommand: Result<Command<'a>, AllocError>,
+) -> Result<Command<'a>, AllocError> {
+    program?.subcommand(subcommand?)
+}
+
 fn program_command<'a>(alloc: Global) -> Result<Command<'a>, AllocError> {
-    bare_command(alloc)?
-        .subcommand(replay_command(alloc))?
-        .subcommand(check_command(alloc)?)?
-        .subcommand(serve_command(alloc)?)
+    let program = bare_command(alloc)?.subcommand(replay_command(alloc));
+    let program = with_subcommand(program, check_command(alloc));
+    with_subcommand(program, serve_command(alloc))
 }
 
 // The text that clap prints instead of matching the arguments.

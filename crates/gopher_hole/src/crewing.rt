@@ -2,7 +2,7 @@
 
 ghost use Rattle.std.specs.Prelude.{◌≡◌, [], None, Some, Ok, IfErr, IfOk, OnOk, vec_len};
 ghost use Rattle.gopher_hole.specs.Ending.{HasServed, ServerEnds, StartsAll, fault_at_end, listening_line};
-ghost use Rattle.gopher_hole.specs.Sending.{HasSent};
+ghost use Rattle.gopher_text.specs.Watched.{HasSent};
 ghost use Rattle.gopher_crew.specs.Desk.{IsBlankOf};
 ghost use Rattle.gopher_crew.specs.Kept.{IsStatusAfter};
 

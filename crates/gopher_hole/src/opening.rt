@@ -126,12 +126,10 @@ pub fn open<'r, C: Crew, R: Files + Wait>(
 ) -> Result<Opened<C, &'r R>, ProgramFault>
     requires blank { IsBlankOf C.name C.parts C.history blank }
     requires begun { blank.begun ≡ [] }
-    ensures home { IfOk result (λ opened. opened.replies.home ≡ settings.home) }
-    ensures desk { IfOk result (λ opened. opened.desk ≡ opening_record settings) }
-    ensures passes { IfOk result (λ opened.
-        AllHaveSeen (opening_record settings) settings.threads opened.passes.items) }
-    ensures shares { IfOk result (λ opened.
-        opened.shares.items ≡ shares_at (opening_record settings) settings.workers) }
+    ensures home { IfOk result (λ o. o.replies.home ≡ settings.home) }
+    ensures desk { IfOk result (λ o. o.desk ≡ opening_record settings) }
+    ensures passes { IfOk result (λ o. AllHaveSeen o.desk settings.threads o.passes.items) }
+    ensures shares { IfOk result (λ o. o.shares.items ≡ shares_at o.desk settings.workers) }
 {
     let (home, threads, workers) = (settings.home, settings.threads, settings.workers);
     let (places, tries) = (settings.places, settings.tries);
