@@ -9,7 +9,7 @@ use Rattle.std.proofs.lemmas.Option.{slice_get_within, slice_get-get_or, get_or_
 use Rattle.gopher_item.proofs.PlaceLemmas.{same_place-true}
 use Rattle.gopher_item.specs.Place.{PlaceData, same_place, is_among, distinct}
 use Rattle.gopher_item.specs.Scope.{ScopeData, allows, IsAllowed}
-use Rattle.gopher_page.specs.Page.{PageData, page_of, links_of, menu_links}
+use Rattle.gopher_page.specs.Page.{PageData, page_of, menu_page, text_page}
 use Rattle.gopher_catalogue.specs.Event.{OpeningData, EventData, Opened, Claimed, Found, Failed}
 use Rattle.gopher_catalogue.specs.Frontier.{mentioned, mentions, known, dropped, finds, failures, is_done}
 use Rattle.gopher_catalogue.specs.Legal.{IsLegal}
@@ -44,19 +44,13 @@ among_filter_from f xs p h t = any-filter_same (same_place p) f true (λ k same.
 
 -- ---- pages
 
-page_of-links : (scope : ScopeData) (place : PlaceData) (bytes : List ℕ) → (page_of scope place bytes).links ≡ links_of scope place bytes
+page_of-allowed : (scope : ScopeData) (place : PlaceData) (bytes : List ℕ) → All (IsAllowed scope) (page_of scope place bytes).links
 unfolding page_of
-page_of-links scope place bytes = refl
-
-links_of-allowed : (scope : ScopeData) (place : PlaceData) (bytes : List ℕ) → All (IsAllowed scope) (links_of scope place bytes)
-links_of-allowed scope place bytes =
-    elim (eqb place.kind 49) as (λ b. All (IsAllowed scope) (cond b (menu_links scope bytes) [])) [
+page_of-allowed scope place bytes =
+    elim (eqb place.kind 49) as (λ b. All (IsAllowed scope) (cond b (menu_page scope place bytes) (text_page place bytes)).links) [
       | true ↦ All-distinct (IsAllowed scope) _ (filter_passes (allows scope) _)
       | false ↦ All-nil (IsAllowed scope)
     ]
-
-page_of-allowed : (scope : ScopeData) (place : PlaceData) (bytes : List ℕ) → All (IsAllowed scope) (page_of scope place bytes).links
-page_of-allowed scope place bytes = subst (All (IsAllowed scope)) (sym (page_of-links scope place bytes)) (links_of-allowed scope place bytes)
 
 pub page_found_at : (events : List EventData) (i : ℕ) (page : PageData) → slice_get (pages_found events) i ≡ Some page → (k : ℕ) × (n : ℕ) × (slice_get events k ≡ Some (Found n page))
 unfolding pages_found

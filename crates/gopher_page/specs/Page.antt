@@ -1,5 +1,5 @@
 -- A page: what a catalogue keeps of a reply.
-use Rattle.std.specs.Prelude.{ℕ, ◌+◌, ◌*◌, Bool, List, [], length, take, map, filter, Option, None, ◌==◌, nat_lt, if◌then◌else◌}
+use Rattle.std.specs.Prelude.{◌≡◌, ℕ, ◌+◌, ◌*◌, Bool, List, [], length, take, map, filter, Option, None, ◌==◌, nat_lt, if◌then◌else◌}
 use Rattle.std.specs.List.{filter_map, find, flat_map, sum_by}
 use Rattle.std.specs.Option.{option_map_or}
 use Rattle.std.specs.Arc.{arc_value}
@@ -40,6 +40,10 @@ abbrev pub page_with : PlaceData → List ℕ → List PlaceData → List (List 
 page_with place title links counts =
     record { place = place; title = title; links = links; counts = counts }
 
+-- the values in a list of shared values
+abbrev pub held : {A Z : Type 0} → List (Arc A Z) → List A
+held shared = map arc_value shared
+
 -- the links of a page, which keeps a list only if it has any
 abbrev pub links_kept : {Z : Type 0} → Option (Arc (List PlaceData) Z) → List PlaceData
 links_kept links = option_map_or arc_value links []
@@ -61,10 +65,6 @@ with_links scope links entries = insert_all same_place links (allowed_places sco
 abbrev pub menu_links : ScopeData → List ℕ → List PlaceData
 menu_links scope bytes = distinct (allowed_places scope (entries_of (lines_of bytes)))
 
--- a directory (type `1`, 49) has the links of its menu, a file has none
-abbrev pub links_of : ScopeData → PlaceData → List ℕ → List PlaceData
-links_of scope place bytes = if place.kind == 49 then menu_links scope bytes else []
-
 -- ---- lines
 
 -- the line of a page for an entry of a menu
@@ -75,10 +75,6 @@ line_of_entry (Odd bytes) = bytes
 -- the lines of a directory's page: one for each entry of its menu
 abbrev pub menu_page_lines : List ℕ → List (List ℕ)
 menu_page_lines bytes = map line_of_entry (entries_of (lines_of bytes))
-
--- the lines of a page; the lines of a file's page are those of its text
-abbrev pub page_lines : PlaceData → List ℕ → List (List ℕ)
-page_lines place bytes = if place.kind == 49 then menu_page_lines bytes else text_lines bytes
 
 -- ---- title
 
@@ -109,10 +105,24 @@ abbrev pub page_of_lines : PlaceData → List (List ℕ) → List PlaceData → 
 page_of_lines place lines links =
     page_with place (title_of place lines) links (counts_of (flat_map words_of lines))
 
--- the page of a reply depends only on the scope, the place and the bytes
+-- a page was made of these lines and links
+abbrev pub IsOfLines : PlaceData → List (List ℕ) → List PlaceData → PageData → Type 0
+IsOfLines place lines links page = page ≡ page_of_lines place lines links
+
+-- the page of a directory
+abbrev pub menu_page : ScopeData → PlaceData → List ℕ → PageData
+menu_page scope place bytes =
+    page_of_lines place (menu_page_lines bytes) (menu_links scope bytes)
+
+-- the page of a file: its lines are those of its text, and it has no links
+abbrev pub text_page : PlaceData → List ℕ → PageData
+text_page place bytes = page_of_lines place (text_lines bytes) []
+
+-- the page of a reply depends only on the scope, the place (type `1`, 49, is a directory) and the
+-- bytes
 unfoldable pub page_of : ScopeData → PlaceData → List ℕ → PageData
 page_of scope place bytes =
-    page_of_lines place (page_lines place bytes) (links_of scope place bytes)
+    if place.kind == 49 then menu_page scope place bytes else text_page place bytes
 
 -- ---- sizes: how many bytes a page counts for under a limit of memory
 
@@ -120,14 +130,12 @@ page_of scope place bytes =
 abbrev pub ends_size : ℕ → ℕ → ℕ
 ends_size bytes count = if nat_lt bytes 65536 then 2 * count else 4 * count
 
--- packed counts: a byte for each, and two more for each up to the last one of 256 or more
-abbrev pub repeats_size : List (List ℕ × ℕ) → ℕ
-repeats_size counts = length counts + 2 * len_to_last 256 (map (λ entry. entry.1) counts)
-
--- packed words with their ends and counts
+-- packed words with their ends and counts: a count takes a byte, and two more up to the last count
+-- of 256 or more
 abbrev pub counts_size : List (List ℕ × ℕ) → ℕ
 counts_size counts =
-    words_bytes counts + ends_size (words_bytes counts) (length counts) + repeats_size counts
+    words_bytes counts + ends_size (words_bytes counts) (length counts)
+    + (length counts + 2 * len_to_last 256 (map (λ entry. entry.1) counts))
 
 -- the words of a page: the page and the index contain them, and the index has 11 bytes more for
 -- each; the index doesn't copy the words of a large page

@@ -1,7 +1,7 @@
 -- Queries: which pages they match, and the scores of these.
-use Rattle.std.specs.Prelude.{◌≡◌, ◌≤◌, ℕ, Bool, IsTrue, true, false, ◌&&◌, ◌||◌, not, List, [], ◌∷◌, codes, length, filter, slice_get, nat_lt, Option, None, Some, Result, Ok, Err, if◌then◌else◌}
+use Rattle.std.specs.Prelude.{◌≡◌, ◌≤◌, ℕ, Bool, IsTrue, true, false, ◌&&◌, ◌||◌, not, List, [], ◌∷◌, codes, length, filter, nat_lt, Option, None, Some, Result, Ok, Err, if◌then◌else◌}
 use Rattle.std.specs.List.{fold, sum_by, list_any}
-use Rattle.std.specs.Option.{option_map, option_map_or}
+use Rattle.std.specs.Option.{option_map_or}
 use Rattle.gopher_bytes.specs.declared.line.TheConstants.{MAX_LINE}
 use Rattle.gopher_page.specs.Words.{Token, same_word, token_of, tokens_of}
 use Rattle.gopher_page.specs.Counts.{count_meant}
@@ -77,13 +77,6 @@ is_not operator = false
 -- the terms without `not`
 unfoldable pub wanted : List TermData → List TermData
 wanted terms = filter (λ term. not (is_not term.operator)) terms
-
--- the word of a term by its index among those without `not`, and whether the term is a prefix
-abbrev pub wanted_word : List TermData → ℕ → Option (List ℕ)
-wanted_word terms index = option_map (λ term. term.word) (slice_get (wanted terms) index)
-
-abbrev pub wanted_prefix : List TermData → ℕ → Option Bool
-wanted_prefix terms index = option_map (λ term. term.is_prefix) (slice_get (wanted terms) index)
 
 -- the score of a page with these counts; a word of two terms counts twice
 unfoldable pub score : List TermData → List (List ℕ × ℕ) → ℕ

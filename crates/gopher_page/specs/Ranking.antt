@@ -1,5 +1,5 @@
 -- How pages are listed: the order of hits, and the pages that contain a word.
-use Rattle.std.specs.Prelude.{◌≡◌, ◌++◌, ℕ, List, [], ◌∷◌, nat_lt, if◌then◌else◌}
+use Rattle.std.specs.Prelude.{ℕ, List, [], ◌∷◌, nat_lt, if◌then◌else◌}
 use Rattle.std.specs.Ordering.{nat_cmp, on, then_cmp, flip_args}
 use Rattle.std.specs.declared.cmp.Ordering.{Ordering}
 use Rattle.gopher_item.specs.Place.{PlaceData, place_cmp}
@@ -14,7 +14,3 @@ scored_cmp =
 -- the place of a page with a word's count in it, unless the count is 0
 abbrev pub counted_place : PageData → ℕ → List (PlaceData × ℕ)
 counted_place page count = if nat_lt 0 count then (page.place, count) ∷ [] else []
-
--- that was appended to a list
-abbrev pub AddsPlace : PageData → ℕ → List (PlaceData × ℕ) → List (PlaceData × ℕ) → Type 0
-AddsPlace page count old new = new ≡ old ++ counted_place page count

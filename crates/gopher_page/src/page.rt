@@ -1,13 +1,12 @@
 //! `Page`: what a catalogue keeps of the reply of a place (`Page::of`).
 
-ghost use Rattle.std.specs.Prelude.{◌≡◌, ◌≤◌, [], false, length, IfOk};
+ghost use Rattle.std.specs.Prelude.{◌≡◌, ◌≤◌, false, length, IfOk};
 ghost use Rattle.std.specs.Arc.{arc_value};
 ghost use Rattle.std.specs.List.{sum_by};
 ghost use Rattle.gopher_item.specs.Places.{IsSum, places_lent};
-ghost use Rattle.gopher_text.specs.Text.{text_lines};
 ghost use Rattle.gopher_page.specs.Words.{texts};
 ghost use Rattle.gopher_page.specs.Counts.{count_meant};
-ghost use Rattle.gopher_page.specs.Page.{is_large, links_kept, links_size, menu_links, menu_page_lines, page_of, page_of_lines, page_size, words_size};
+ghost use Rattle.gopher_page.specs.Page.{is_large, links_kept, links_size, menu_page, page_of, page_size, text_page, words_size, IsOfLines};
 
 use crate::counting::count_words;
 use crate::counts::Counts;
@@ -92,8 +91,7 @@ fn page_of_lines(
 ) -> Result<Page, NoMemory>
     requires short { sum_by length (texts lines.now) ≤ MAX_REPLY }
     requires few { length (links_kept links) ≤ MAX_REPLY }
-    ensures { IfOk result (λ page.
-        page ≡ page_of_lines (arc_value place.now) (texts lines.now) (links_kept links)) }
+    ensures { IfOk result (IsOfLines (arc_value place.now) (texts lines.now) (links_kept links)) }
 {
     let counts = count_words(alloc, lines)?;
     let parts = Parts {
@@ -114,9 +112,7 @@ fn page_of_menu(
     bytes: &[u8],
 ) -> Result<Page, NoMemory>
     requires small { length bytes.now ≤ MAX_REPLY }
-    ensures { IfOk result (λ page.
-        page ≡ page_of_lines (arc_value place.now) (menu_page_lines bytes.now)
-        (menu_links scope.now bytes.now)) }
+    ensures { IfOk result (λ page. page ≡ menu_page scope.now (arc_value place.now) bytes.now) }
 {
     let menu = read_menu(alloc, bytes)?;
     let links = links_of_entries(alloc, scope, &menu.entries)?;
@@ -126,8 +122,7 @@ fn page_of_menu(
 
 fn page_of_text(alloc: Global, place: &Arc<Place>, bytes: &[u8]) -> Result<Page, NoMemory>
     requires small { length bytes.now ≤ MAX_REPLY }
-    ensures { IfOk result (λ page.
-        page ≡ page_of_lines (arc_value place.now) (text_lines bytes.now) []) }
+    ensures { IfOk result (λ page. page ≡ text_page (arc_value place.now) bytes.now) }
 {
     let lines = text_lines(alloc, bytes)?;
     page_of_lines(alloc, place, &lines, None)

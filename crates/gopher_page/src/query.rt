@@ -1,7 +1,8 @@
 //! `Query`, `Term`, `Operator`: reading a query, which pages it matches, and their scores.
 
 ghost use Rattle.std.specs.Prelude.{◌≡◌, ◌+◌, ◌<◌, ◌≤◌, ◌++◌, IsTrue, not, Some, length, slice_get, IfOk, OnOk};
-ghost use Rattle.gopher_page.specs.Query.{operator_of, later_terms, terms_from, query_of, count_of_term, joined, matches, is_not, wanted, wanted_word, wanted_prefix, score, ReadsQuery, IsQuery, HasWanted};
+ghost use Rattle.std.specs.Option.{option_map};
+ghost use Rattle.gopher_page.specs.Query.{operator_of, later_terms, terms_from, query_of, count_of_term, joined, matches, is_not, wanted, score, ReadsQuery, IsQuery, HasWanted};
 
 use crate::fault::QueryFault;
 use crate::page::Page;
@@ -272,7 +273,7 @@ impl Query {
     /// `wants`.
     pub fn want(&self, index: usize) -> &[u8]
         requires { index < length (wanted self.now) }
-        ensures { wanted_word self.now index ≡ Some result.now }
+        ensures { option_map (λ t. t.word) (slice_get (wanted self.now) index) ≡ Some result.now }
     {
         self.wanted_term(index).word()
     }
@@ -281,7 +282,7 @@ impl Query {
     /// below `wants`.
     pub fn want_is_prefix(&self, index: usize) -> bool
         requires { index < length (wanted self.now) }
-        ensures { wanted_prefix self.now index ≡ Some result }
+        ensures { option_map (λ t. t.is_prefix) (slice_get (wanted self.now) index) ≡ Some result }
     {
         self.wanted_term(index).is_prefix()
     }

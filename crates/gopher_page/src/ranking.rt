@@ -1,8 +1,8 @@
 //! How pages are listed: the order of hits (`Page::rank`), and the pages that contain a word
 //! (`push_page`).
 
-ghost use Rattle.std.specs.Prelude.{◌≡◌, OnErr, OnOk};
-ghost use Rattle.gopher_page.specs.Ranking.{AddsPlace, scored_cmp};
+ghost use Rattle.std.specs.Prelude.{◌≡◌, ◌++◌, OnErr, OnOk};
+ghost use Rattle.gopher_page.specs.Ranking.{counted_place, scored_cmp};
 
 use crate::page::Page;
 use gopher_item::{NoMemory, Place};
@@ -28,7 +28,7 @@ impl Page {
 ///
 /// `NoMemory` (90): out of memory. The list stays unchanged.
 pub fn push_page(page: &Page, count: u32, found: &mut Vec<(Place, u32)>) -> Result<(), NoMemory>
-    ensures added { OnOk result (AddsPlace page.now count found.old.items found.new.items) }
+    ensures adds { OnOk result (found.new.items ≡ found.old.items ++ counted_place page.now count) }
     ensures refused { OnErr result (found.new.items ≡ found.old.items) }
 {
     if count > 0 {
