@@ -1,13 +1,12 @@
 -- A file without a fault, and the tree after it was added.
-use Rattle.std.proofs.Common.{◌≡◌, ℕ, ◌+◌, ◌<◌, ◌≤◌, Bool, true, false, cond, ◌||◌, ltb, List, [], ◌∷◌, ◌++◌, length, sum_by, Option, None, Some, Ok, Err, ◌⊎◌, inl, inr, refl, sym, ap, ◌∙◌, append_assoc, arith}
+use Rattle.std.proofs.Common.{◌≡◌, ℕ, ◌+◌, ◌<◌, ◌≤◌, Bool, true, false, cond, ◌||◌, ltb, List, [], ◌∷◌, ◌++◌, length, sum_by, Option, None, Some, Err, inl, inr, refl, sym, ap, ◌∙◌, append_assoc, arith}
 use Rattle.std.specs.Option.{option_or}
 use Rattle.std.proofs.lemmas.Bool.{or_parts, ltb-false}
 use Rattle.std.proofs.lemmas.List.Sums.{sum_by-append}
 use Rattle.gopher_tree.specs.Path.{names_of, first_name, is_search_name, has_bad_name}
 use Rattle.gopher_tree.specs.Files.{File, total_bytes}
-use Rattle.gopher_tree.specs.Fault.{path_fault, is_too_big, is_twice, menu_fault, file_fault, fault_after, files_fault, first_fault, AddsFile, MakesTree}
+use Rattle.gopher_tree.specs.Fault.{path_fault, is_too_big, is_twice, menu_fault, file_fault, fault_after, files_fault, first_fault, AddsFile, RefusesFile, MakesTree}
 use Rattle.gopher_tree.specs.declared.fault.TreeFault.{TreeFault}
-use Rattle.gopher_tree.specs.declared.fault.TreeFault.TheVariants.{NoMemory}
 
 pub option_or-none : (a b : Option TreeFault) → option_or a b ≡ None → (a ≡ None) × (b ≡ None)
 option_or-none None b h = (refl, h)
@@ -52,36 +51,23 @@ total_bytes-push files file = let one : sum_by (λ g. length g.1) (file ∷ []) 
 pub few_bytes : (files : List File) (file : File) → is_too_big files file ≡ false → total_bytes (files ++ file ∷ []) ≤ 67108864
 few_bytes files file h = ltb-false 67108864 _ (or_parts (ltb 16777216 (length file.1)) _ (or_parts (ltb 16777216 (length file.1) || ltb 67108864 (total_bytes (files ++ file ∷ []))) _ h).0).1
 
--- adding a file fails with the file's fault, or because it is out of memory
-pub adds_refused : {T : Type 0} (found : Option TreeFault) (files : T) (fault : TreeFault) → AddsFile found files (Err fault) → (found ≡ Some fault) ⊎ ((found ≡ None) × (fault ≡ NoMemory))
-adds_refused None files fault adds = inr (refl, adds)
-adds_refused (Some first) files fault adds = let same : first ≡ fault = cc in inl (ap (λ f. Some f) same)
-
-pub adds_one : {T : Type 0} (found : Option TreeFault) (files tree : T) → AddsFile found files (Ok tree) → (found ≡ None) × (tree ≡ files)
-adds_one None files tree adds = (refl, adds)
-adds_one (Some first) files tree adds = absurd cc
-
 -- the first file of a list has no fault
 first_none : (done rest : List File) (file : File) → first_fault done ≡ None → file_fault done file ≡ None → first_fault (done ++ file ∷ rest) ≡ None
 first_none [] rest file first none = none
 first_none (f ∷ done) rest file first none = first
 
 -- the fault of a file is the fault of the list whose rest it begins
-pub makes_refused : {T : Type 0} (done rest : List File) (file : File) (files : List File) (tree : T) (fault : TreeFault)
-    → fault_after done (file ∷ rest) ≡ files_fault files → done ++ file ∷ rest ≡ files → first_fault done ≡ None → AddsFile (file_fault done file) tree (Err fault) → MakesTree files (Err fault)
-makes_refused done rest file files tree fault is all first adds = by (adds_refused (file_fault done file) tree fault adds)
-  where
-    by : (file_fault done file ≡ Some fault) ⊎ ((file_fault done file ≡ None) × (fault ≡ NoMemory)) → (files_fault files ≡ Some fault) ⊎ ((fault ≡ NoMemory) × (first_fault files ≡ None))
-    by (inl due) = inl (sym is ∙ ap (λ f. option_or f (fault_after (done ++ file ∷ []) rest)) due)
-    by (inr memory) = inr (memory.1, ap first_fault (sym all) ∙ first_none done rest file first memory.0)
+pub makes_refused : (done rest : List File) (file : File) (files : List File) (fault : TreeFault)
+    → fault_after done (file ∷ rest) ≡ files_fault files → done ++ file ∷ rest ≡ files → first_fault done ≡ None → RefusesFile done file fault → MakesTree files (Err fault)
+makes_refused done rest file files fault is all first (inl due) = inl (sym is ∙ ap (λ f. option_or f (fault_after (done ++ file ∷ []) rest)) due)
+makes_refused done rest file files fault is all first (inr memory) = inr (memory.1, ap first_fault (sym all) ∙ first_none done rest file first memory.0)
 
 -- the next file has no fault
 pub makes_on : (done rest : List File) (file : File) (all : Option TreeFault) (tree : List File)
-    → fault_after done (file ∷ rest) ≡ all → first_fault done ≡ None → AddsFile (file_fault done file) (done ++ file ∷ []) (Ok tree)
+    → fault_after done (file ∷ rest) ≡ all → first_fault done ≡ None → AddsFile done file tree
     → (fault_after tree rest ≡ all) × (first_fault tree ≡ None) × (tree ++ rest ≡ done ++ file ∷ rest)
-makes_on done rest file all tree is first adds =
-    let one = adds_one (file_fault done file) (done ++ file ∷ []) tree adds in (
-      ap (λ l. fault_after l rest) one.1 ∙ sym (ap (λ f. option_or f (fault_after (done ++ file ∷ []) rest)) one.0) ∙ is,
-      ap first_fault one.1 ∙ first_none done [] file first one.0,
-      ap (λ l. l ++ rest) one.1 ∙ append_assoc done (file ∷ []) rest,
-    )
+makes_on done rest file all tree is first (none, one) = (
+  ap (λ l. fault_after l rest) one ∙ sym (ap (λ f. option_or f (fault_after (done ++ file ∷ []) rest)) none) ∙ is,
+  ap first_fault one ∙ first_none done [] file first none,
+  ap (λ l. l ++ rest) one ∙ append_assoc done (file ∷ []) rest,
+)

@@ -65,7 +65,7 @@ child_is kind name rest n (y ∷ ys) names = same_test name n ∙ sym (and-true 
 child_leads : (folder name : List ℕ) (file : File) → is_child name (child_below folder file) ≡ leads_to_name folder name file.0
 child_leads folder name file = by (rest_below folder file.0)
   where
-    by : (o : Option (List ℕ)) → is_child name (child_of_rest (kind_of file.0 file.1) o) ≡ begins_with name o
+    by : (o : Option (List ℕ)) → is_child name (child_of_rest file o) ≡ begins_with name o
     by None = refl
     by (Some rest) =
         let some = names_of-some rest in
@@ -83,12 +83,12 @@ any_child folder name (file ∷ files) =
     by None = refl
     by (Some c) = refl
 
-listed : (files : List File) (folder name : List ℕ) → list_any (eq_by_cmp order name) (listed_names files folder) ≡ list_any (λ file. leads_to_name folder name file.0) files
-listed files folder name =
+is_listed : (files : List File) (folder name : List ℕ) → list_any (eq_by_cmp order name) (listed_names files folder) ≡ list_any (λ file. leads_to_name folder name file.0) files
+is_listed files folder name =
     sym (is_some-lookup (is_at (order name)) (children files folder)) ∙ some_put name [] (filter_map (child_below folder) files) ∙ any_child folder name files
 
 pub listings_are_whole : ListingsAreWhole
 listings_are_whole files folder name = (
-  λ there. sym (listed files folder name) ∙ list_any-from_Contains (eq_by_cmp_equiv nat_list_cmp_total) name (listed_names files folder) there,
-  λ leads. Contains-from_any same_name name (listed_names files folder) (listed files folder name ∙ leads),
+  λ there. sym (is_listed files folder name) ∙ list_any-from_Contains (eq_by_cmp_equiv nat_list_cmp_total) name (listed_names files folder) there,
+  λ leads. Contains-from_any same_name name (listed_names files folder) (is_listed files folder name ∙ leads),
 )

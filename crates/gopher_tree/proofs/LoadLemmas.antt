@@ -1,5 +1,5 @@
 -- The files that a walk through a folder lists, step by step, and why it stops.
-use Rattle.std.proofs.Common.{◌≡◌, ℕ, ◌≤◌, List, [], ◌∷◌, ◌++◌, length, take, Option, None, Some, Result, Ok, Err, IfSome, IfOk, IfErr, refl, sym, ap, ◌∙◌, subst, ◌⊎◌, inl, inr}
+use Rattle.std.proofs.Common.{◌≡◌, ℕ, ◌≤◌, List, [], ◌∷◌, ◌++◌, length, take, Option, None, Some, Result, Ok, Err, IfSome, IfOk, IfErr, refl, sym, ap, ◌∙◌, subst, inl, inr}
 use Rattle.std.proofs.lemmas.List.{append_assoc, append-nil}
 use Rattle.std.specs.Option.{option_map}
 use Rattle.std.specs.declared.io.traits.Take.{Take}
@@ -7,11 +7,11 @@ use Rattle.std.specs.Io.Take.{take_limit, take_inner, take_remaining}
 use Rattle.gopher_tree.specs.Files.{File, total_bytes}
 use Rattle.std.specs.Option.{option_or}
 use Rattle.gopher_tree.specs.Fault.{file_fault, fault_after, files_fault, AddsFile}
-use Rattle.gopher_tree.specs.Load.{StopsAt, StopsAtFolder, Lists, ListsFile, WalksTo, Loads, LoadsTo, IsUnreadable, Refuses}
+use Rattle.gopher_tree.specs.Load.{StopsAt, StopsAtFolder, Lists, WalksTo, Loads, LoadsTo, IsUnreadable, Refuses}
 use Rattle.gopher_tree.specs.declared.fault.TreeFault.{TreeFault}
 use Rattle.gopher_tree.specs.declared.fault.TreeFault.TheVariants.{NoMemory}
 use Rattle.gopher_tree.specs.declared.load.trail.Trail.{Trail}
-use Rattle.gopher_tree.proofs.FaultLemmas.{option_or-none, adds_refused}
+use Rattle.gopher_tree.proofs.FaultLemmas.{option_or-none}
 
 option_or-both : (a b : Option TreeFault) → a ≡ None → b ≡ None → option_or a b ≡ None
 option_or-both a b h k = ap (λ t. option_or t b) h ∙ k
@@ -66,27 +66,19 @@ pub stops_memory : (files : List File) (trail : Trail) (fault : TreeFault) → f
 stops_memory files trail fault is = inr (inr (inr is))
 
 stops_file : (files : List File) (trail : Trail) (path bytes : List ℕ) (fault : TreeFault) → trail.path.items ≡ path → length bytes ≤ trail.size → trail.bytes ≡ total_bytes files → Refuses files trail (path, bytes) fault → StopsAt files trail fault
-stops_file files trail path bytes fault at size total (inl is) = inl (bytes, size, total, ap (λ p. file_fault files (p, bytes)) at ∙ is)
-stops_file files trail path bytes fault at size total (inr (inl full)) = inr (inl (inr (inl full)))
-stops_file files trail path bytes fault at size total (inr (inr memory)) = stops_memory files trail fault memory.1
+stops_file files trail path bytes fault at size total (inl (inl is)) = inl (bytes, size, total, ap (λ p. file_fault files (p, bytes)) at ∙ is)
+stops_file files trail path bytes fault at size total (inr full) = inr (inl (inr (inl full)))
+stops_file files trail path bytes fault at size total (inl (inr memory)) = stops_memory files trail fault memory.1
 
 -- a walk that reaches a file
 pub walks_file : (first : List File) (trail : Trail) (path bytes : List ℕ) (result : Result (List File) TreeFault) → trail.path.items ≡ path → length bytes ≤ trail.size → trail.bytes ≡ total_bytes first
-    → IfOk result (ListsFile first (path, bytes)) → IfErr result (Refuses first trail (path, bytes)) → WalksTo first trail result
+    → IfOk result (AddsFile first (path, bytes)) → IfErr result (Refuses first trail (path, bytes)) → WalksTo first trail result
 walks_file first trail path bytes (Ok files) at size total lists refused = lists_one first (path, bytes) files lists.0 lists.1
 walks_file first trail path bytes (Err fault) at size total lists refused = (first, lists_none first, stops_file first trail path bytes fault at size total refused)
 
 -- a folder with a fault
 pub stops_folder : (files : List File) (trail : Trail) (number : ℕ) (fault : TreeFault) → number ≡ length files → StopsAtFolder number trail fault → StopsAt files trail fault
 stops_folder files trail number fault same stops = inr (inl (subst (λ n. StopsAtFolder n trail fault) same stops))
-
--- a file that is added to the tree, or fails
-pub file_refused : {T : Type 0} (files : List File) (trail : Trail) (path bytes : List ℕ) (after : T) (fault : TreeFault) → AddsFile (file_fault files (path, bytes)) after (Err fault) → Refuses files trail (path, bytes) fault
-file_refused files trail path bytes after fault adds = by (adds_refused (file_fault files (path, bytes)) after fault adds)
-  where
-    by : (file_fault files (path, bytes) ≡ Some fault) ⊎ ((file_fault files (path, bytes) ≡ None) × (fault ≡ NoMemory)) → Refuses files trail (path, bytes) fault
-    by (inl is) = inl is
-    by (inr memory) = inr (inr memory)
 
 -- the files that a walk lists have no fault
 pub faultless : (files : List File) → Lists [] files → files_fault files ≡ None

@@ -55,12 +55,14 @@ fault_after done (file ∷ files) =
 abbrev pub files_fault : List File → Option TreeFault
 files_fault files = fault_after [] files
 
--- adding a file with this fault, or with none, fails with it, returns the tree with the file, or is
--- out of memory
-abbrev pub AddsFile : {T : Type 0} → Option TreeFault → T → Result T TreeFault → Type 0
-AddsFile (Some fault) files result = result ≡ Err fault
-AddsFile None files (Ok tree) = tree ≡ files
-AddsFile None files (Err fault) = fault ≡ NoMemory
+-- a file without a fault was added after these files
+abbrev pub AddsFile : List File → File → List File → Type 0
+AddsFile before file after = (file_fault before file ≡ None) × (after ≡ before ++ file ∷ [])
+
+-- adding a file after these files failed: with its fault, or because it is out of memory
+abbrev pub RefusesFile : List File → File → TreeFault → Type 0
+RefusesFile files file fault =
+    (file_fault files file ≡ Some fault) ⊎ ((file_fault files file ≡ None) × (fault ≡ NoMemory))
 
 -- the fault of the first file
 abbrev pub first_fault : List File → Option TreeFault

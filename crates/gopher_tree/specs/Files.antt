@@ -51,11 +51,12 @@ child_of kind [] = None
 child_of kind (name ∷ []) = if is_menu_name name then None else Some (name, kind)
 child_of kind (name ∷ more) = Some (name, 49)
 
-abbrev pub child_of_rest : ℕ → Option (List ℕ) → Option Child
-child_of_rest kind rest = option_and_then (λ path. child_of kind (names_of path)) rest
+abbrev pub child_of_rest : File → Option (List ℕ) → Option Child
+child_of_rest file rest =
+    option_and_then (λ path. child_of (kind_of file.0 file.1) (names_of path)) rest
 
 abbrev pub child_below : List ℕ → File → Option Child
-child_below folder file = child_of_rest (kind_of file.0 file.1) (rest_below folder file.0)
+child_below folder file = child_of_rest file (rest_below folder file.0)
 
 -- distinct names in byte order
 abbrev pub add_child : List Child → Child → List Child
@@ -78,6 +79,10 @@ paths_of path = [] ∷ folders_of path ++ path ∷ []
 -- the distinct paths of the root, the folders and the files
 abbrev pub nodes : List File → List (List ℕ)
 nodes files = fold add_path ([] ∷ []) (flat_map (λ file. paths_of file.0) files)
+
+-- the distinct nodes of the files and a path
+abbrev pub nodes_with : List File → List ℕ → List (List ℕ)
+nodes_with files path = fold add_path (nodes files) (paths_of path)
 
 -- the path is none of the nodes
 abbrev pub is_missing : List File → List ℕ → Bool

@@ -1,5 +1,6 @@
 -- What a tree lends, as values of the definitions.
-use Rattle.std.specs.Prelude.{◌≡◌, ℕ, List, Option, None, Some}
+use Rattle.std.specs.Prelude.{◌≡◌, ℕ, List, map, Option, None, Some}
+use Rattle.std.specs.BTreeMap.{BTreeMap}
 use Rattle.std.specs.Option.{option_map}
 use Rattle.std.specs.Borrow.{Bor}
 use Rattle.std.specs.declared.vec.Vec.{Vec}
@@ -19,6 +20,10 @@ lent_file file = (file.0.now, file.1.now)
 -- a child whose name is lent
 abbrev pub lent_child : Bor (List ℕ) × ℕ → Child
 lent_child child = (child.0.now, child.1)
+
+-- the children in a map whose names are lent
+abbrev pub listed : BTreeMap (Bor (List ℕ)) ℕ → List Child
+listed children = map lent_child children.entries
 
 abbrev pub child_data : Option (Bor (List ℕ) × ℕ) → Option Child
 child_data child = option_map lent_child child

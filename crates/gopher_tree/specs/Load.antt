@@ -4,7 +4,7 @@ use Rattle.std.specs.List.{All}
 use Rattle.std.specs.declared.vec.Vec.{Vec}
 use Rattle.gopher_tree.specs.Path.{is_menu_name}
 use Rattle.gopher_tree.specs.Files.{File, total_bytes}
-use Rattle.gopher_tree.specs.Fault.{file_fault, fault_after, files_fault}
+use Rattle.gopher_tree.specs.Fault.{file_fault, fault_after, files_fault, RefusesFile}
 use Rattle.gopher_tree.specs.declared.fault.TreeFault.{TreeFault}
 use Rattle.gopher_tree.specs.declared.load.trail.Trail.{Trail}
 use Rattle.gopher_tree.specs.declared.fault.TreeFault.TheVariants.{LongSelector, TooBig, Unreadable, NoMemory}
@@ -14,9 +14,11 @@ abbrev pub is_shown : List ℕ → Bool
 is_shown [] = false
 is_shown (byte ∷ more) = not (byte == 46) || is_menu_name (byte ∷ more)
 
--- the names, and one more if it is listed
-abbrev pub with_shown : List (List ℕ) → List ℕ → List (List ℕ)
-with_shown names name = if is_shown name then names ++ name ∷ [] else names
+-- the name was appended if it is listed
+abbrev pub AddsShown : {A B : Type 0} → Vec (String A) B → Vec (String A) B → List ℕ → Type 0
+AddsShown old new name =
+    map (λ each. string_bytes each) new.items
+    ≡ map (λ each. string_bytes each) old.items ++ (if is_shown name then name ∷ [] else [])
 
 -- all these names are listed
 abbrev pub AreShown : {A : Type 0} → List (String A) → Type 0
@@ -55,25 +57,23 @@ LeavesNoRoom number trail = leaves_no_room number (length trail.folders.items) �
 abbrev pub HasRoom : ℕ → Trail → Type 0
 HasRoom number trail = leaves_no_room number (length trail.folders.items) ≡ false
 
--- a file fails after these files: with its own fault, because there are too many nodes, or because
--- it is out of memory
+-- a file fails after these files: with its own fault, because it is out of memory, or because there
+-- are too many nodes
 abbrev pub Refuses : List File → Trail → File → TreeFault → Type 0
 Refuses files trail file fault =
-    (file_fault files file ≡ Some fault)
-    ⊎ ((LeavesNoRoom (length files) trail × (fault ≡ TooBig (length files)))
-    ⊎ ((file_fault files file ≡ None) × (fault ≡ NoMemory)))
+    RefusesFile files file fault
+    ⊎ (LeavesNoRoom (length files) trail × (fault ≡ TooBig (length files)))
 
--- a walk that had listed `before` lists a file without a fault
-abbrev pub ListsFile : List File → File → List File → Type 0
-ListsFile before file after = (file_fault before file ≡ None) × (after ≡ before ++ file ∷ [])
+-- a path was appended
+abbrev pub AddsPath : {A B : Type 0} → Vec (Vec ℕ A) B → Vec (Vec ℕ A) B → List ℕ → Type 0
+AddsPath old new path =
+    map (λ each. each.items) new.items ≡ map (λ each. each.items) old.items ++ path ∷ []
 
 -- the folder at the end of a trail was visited after `number` files, and it has no fault
 pub record EntersFolder (number : ℕ) (old new : Trail) : Type 0 where
   pub short : length old.path.items ≤ 254
   pub room : HasRoom number old
-  pub added :
-      map (λ path. path.items) new.folders.items
-      ≡ map (λ path. path.items) old.folders.items ++ old.path.items ∷ []
+  pub added : AddsPath old.folders new.folders old.path.items
 
 -- a walk stops at the folder at the end of its trail, after `number` files: its selector is too
 -- long, there are too many nodes, or the walk is out of memory

@@ -82,6 +82,6 @@ line_data line =
       server = server_data line.server;
     }
 
--- both are the same line, or neither is a line
-abbrev pub IsWrittenLine : Option WrittenLineData → Option WrittenLine → Type 0
-IsWrittenLine wanted line = option_map line_data line ≡ wanted
+-- a call returns this line, or none if it isn't a line
+abbrev pub Gives : Option WrittenLineData → Option WrittenLine → Type 0
+Gives wanted line = option_map line_data line ≡ wanted

@@ -1,5 +1,5 @@
 -- The reply of a tree to a selector (RFC 1436, section 2; folders as menus are this profile's).
-use Rattle.std.specs.Prelude.{◌≡◌, ℕ, length, ◌==◌, List, [], ◌∷◌, ◌++◌, codes, map, Option, None, Some, Result, OnOk, if◌then◌else◌}
+use Rattle.std.specs.Prelude.{◌≡◌, ℕ, length, ◌==◌, List, [], ◌∷◌, ◌++◌, codes, map, Option, None, Some, Result, IfOk, OnOk, if◌then◌else◌}
 use Rattle.std.specs.List.{flat_map}
 use Rattle.std.specs.Option.{option_and_then, option_map}
 use Rattle.std.specs.declared.vec.Vec.{Vec}
@@ -21,6 +21,10 @@ abbrev pub PutsLines : {A T E : Type 0} → List MenuLineData → Vec ℕ A → 
     → Type 0
 PutsLines lines old new result =
     OnOk result (new.items ≡ old.items ++ flat_map menu_line_bytes lines)
+
+-- a call that succeeds returns the menu of these lines
+abbrev pub MakesMenu : {A E : Type 0} → List MenuLineData → Result (Vec ℕ A) E → Type 0
+MakesMenu lines result = IfOk result (λ menu. menu.items ≡ menu_bytes lines)
 
 -- the file or folder that a selector names
 pub data Named : Type 0 where
@@ -44,6 +48,9 @@ abbrev pub child_line : HomeData → List ℕ → Child → MenuLineData
 child_line home front child =
     menu_line_of child.1 child.0 (front ++ child.0) home.host home.port
 
+abbrev pub child_lines : HomeData → List ℕ → List Child → List MenuLineData
+child_lines home front names = map (child_line home front) names
+
 -- the line of the search, of type `7` (55; RFC 1436, section 3.8)
 abbrev pub search_line : HomeData → MenuLineData
 search_line home = menu_line_of 55 (codes "Search") (codes "/search") home.host home.port
@@ -54,7 +61,7 @@ head_lines home folder = if length folder == 0 then search_line home ∷ [] else
 
 abbrev pub listing_of : HomeData → List ℕ → List Child → List MenuLineData
 listing_of home folder names =
-    head_lines home folder ++ map (child_line home (47 ∷ prefix_of folder)) names
+    head_lines home folder ++ child_lines home (47 ∷ prefix_of folder) names
 
 -- the bytes of a folder's own menu file, if it has one
 abbrev pub menu_file : List File → List ℕ → Option (List ℕ)

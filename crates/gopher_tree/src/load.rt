@@ -2,7 +2,8 @@
 
 ghost use Rattle.std.specs.Prelude.{◌≡◌, ◌<◌, ◌≤◌, length, IfOk, IfErr, OnOk};
 ghost use Rattle.gopher_tree.specs.Files.{total_bytes};
-ghost use Rattle.gopher_tree.specs.Load.{Refuses, ListsFile, HasRoom, WalksTo, Loads, LoadsTo};
+ghost use Rattle.gopher_tree.specs.Fault.{AddsFile};
+ghost use Rattle.gopher_tree.specs.Load.{Refuses, HasRoom, WalksTo, Loads, LoadsTo};
 
 pub(crate) mod folder;
 pub(crate) mod trail;
@@ -25,7 +26,7 @@ impl Tree {
         bytes: Vec<u8>,
         trail: &Trail,
     ) -> Result<Tree, TreeFault>
-        ensures listed { IfOk result (λ tree. ListsFile self (path.items, bytes.items) tree) }
+        ensures listed { IfOk result (AddsFile self (path.items, bytes.items)) }
         ensures room { OnOk result (HasRoom (length self) trail.now) }
         ensures refused { IfErr result (Refuses self trail.now (path.items, bytes.items)) }
     {

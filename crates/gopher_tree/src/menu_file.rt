@@ -2,7 +2,7 @@
 
 ghost use Rattle.std.specs.Prelude.{◌≡◌, ◌∷◌};
 ghost use Rattle.gopher_item.specs.Menu.{fields_of};
-ghost use Rattle.gopher_tree.specs.MenuFile.{is_item, line_of_fields, server_of, written_item, written_line, bad_line, written_menu, sent_line, line_data, server_data, IsWrittenLine};
+ghost use Rattle.gopher_tree.specs.MenuFile.{is_item, line_of_fields, server_of, written_item, written_line, bad_line, written_menu, sent_line, line_data, server_data, Gives};
 ghost use Rattle.gopher_tree.specs.Reply.{PutsLine, PutsLines};
 
 use gopher_item::{
@@ -39,7 +39,7 @@ fn written_item<'a>(
     selector: &'a [u8],
     server: Option<(&'a [u8], u16)>,
 ) -> Option<WrittenLine<'a>>
-    ensures { IsWrittenLine (written_item kind display.now selector.now
+    ensures { Gives (written_item kind display.now selector.now
         (server_data server.entry)) result }
 {
     if !is_item(kind, display, selector) {
@@ -64,7 +64,7 @@ fn server_of<'a>(host: &'a [u8], port: &[u8]) -> Option<(&'a [u8], u16)>
 
 // The line of a first field and the bytes after its TAB.
 fn line_of_fields<'a>(first: &'a [u8], rest: &'a [u8]) -> Option<WrittenLine<'a>>
-    ensures { IsWrittenLine (line_of_fields (first.now ∷ fields_of rest.now)) result }
+    ensures { Gives (line_of_fields (first.now ∷ fields_of rest.now)) result }
 {
     let [kind, display @ ..] = first else {
         return None;
@@ -82,7 +82,7 @@ fn line_of_fields<'a>(first: &'a [u8], rest: &'a [u8]) -> Option<WrittenLine<'a>
 
 /// Reads a line of a menu file, without its end; `None` if it has none of the valid forms.
 pub fn written_line(line: &[u8]) -> Option<WrittenLine<'_>>
-    ensures { IsWrittenLine (written_line line.now) result }
+    ensures { Gives (written_line line.now) result }
 {
     match split_once(TAB, line) {
         Some((first, rest)) => line_of_fields(first, rest),

@@ -1,11 +1,10 @@
 //! Making replies: menus of folders, menus of `.menu` files, texts, raw files and errors.
 
-ghost use Rattle.std.specs.Prelude.{◌≡◌, false, map, IfOk};
+ghost use Rattle.std.specs.Prelude.{◌≡◌, false, IfOk};
 ghost use Rattle.gopher_item.specs.Special.{has_special};
-ghost use Rattle.gopher_item.specs.MenuLine.{menu_bytes};
-ghost use Rattle.gopher_tree.specs.Found.{lent_child};
+ghost use Rattle.gopher_tree.specs.Found.{listed};
 ghost use Rattle.gopher_tree.specs.MenuFile.{written_menu};
-ghost use Rattle.gopher_tree.specs.Reply.{PutsLine, PutsLines, child_line, head_lines, listing_of, file_reply, error_bytes, not_found_bytes};
+ghost use Rattle.gopher_tree.specs.Reply.{MakesMenu, PutsLine, PutsLines, child_line, child_lines, head_lines, listing_of, file_reply, error_bytes, not_found_bytes};
 
 use crate::menu_file::push_written_lines;
 use crate::tree::path::push_prefix;
@@ -79,15 +78,14 @@ fn push_child_line(
 
 // Appends a line for each name.
 fn push_names(
-    children: &Children<'_>,
+    names: &Children<'_>,
     front: &[u8],
     home: &Home,
     out: &mut Vec<u8>,
 ) -> Result<(), NoMemory>
-    ensures { PutsLines (map (child_line home.now front.now) (map lent_child children.now.entries))
-        out.old out.new result }
+    ensures { PutsLines (child_lines home.now front.now (listed names.now)) out.old out.new result }
 {
-    for (name, kind) in children {
+    for (name, kind) in names {
         push_child_line(*kind, name, front, home, out)?;
     }
     Ok(())
@@ -100,8 +98,7 @@ pub(crate) fn listing_reply(
     children: &Children<'_>,
     home: &Home,
 ) -> Result<Vec<u8>, NoMemory>
-    ensures { IfOk result (λ bytes. bytes.items
-        ≡ menu_bytes (listing_of home.now folder.now (map lent_child children.now.entries))) }
+    ensures { MakesMenu (listing_of home.now folder.now (listed children.now)) result }
 {
     let mut front = Vec::from_slice(alloc, b"/")?;
     push_prefix(folder, &mut front)?;
@@ -114,7 +111,7 @@ pub(crate) fn listing_reply(
 
 // The menu of a menu file.
 pub(crate) fn written_reply(alloc: Global, bytes: &[u8], home: &Home) -> Result<Vec<u8>, NoMemory>
-    ensures { IfOk result (λ sent. sent.items ≡ menu_bytes (written_menu home.now bytes.now)) }
+    ensures { MakesMenu (written_menu home.now bytes.now) result }
 {
     let mut out = Vec::new(alloc);
     push_written_lines(bytes, home, &mut out)?;

@@ -1,10 +1,10 @@
 //! `Tree`: its limits, its numbers, and how a file is added.
 
-ghost use Rattle.std.specs.Prelude.{◌≡◌, ◌||◌, ◌&&◌, ◌==◌, ◌+◌, ◌≤◌, ◌<◌, ◌++◌, ◌∷◌, [], None, length, take, fold, slice_index, map, count_by, if◌then◌else◌, IfOk};
+ghost use Rattle.std.specs.Prelude.{◌≡◌, ◌||◌, ◌+◌, ◌≤◌, ◌<◌, ◌++◌, ◌∷◌, [], None, length, map, count_by, if◌then◌else◌, IfOk, IfErr};
 ghost use Rattle.std.specs.Option.{option_copied};
-ghost use Rattle.gopher_tree.specs.Path.{is_menu_path};
-ghost use Rattle.gopher_tree.specs.Files.{is_file, is_folder, file_at, is_missing, menu_files, leads_through_file, nodes, is_path_among, add_path, paths_of, AreNodes, total_bytes};
-ghost use Rattle.gopher_tree.specs.Fault.{is_too_big, is_twice, menu_fault, file_fault, AddsFile, MakesTree};
+ghost use Rattle.gopher_tree.specs.Path.{is_menu_path, leads_at};
+ghost use Rattle.gopher_tree.specs.Files.{is_file, is_folder, file_at, is_missing, menu_files, leads_through_file, nodes, nodes_with, is_path_among, AreNodes, total_bytes};
+ghost use Rattle.gopher_tree.specs.Fault.{is_too_big, is_twice, menu_fault, file_fault, AddsFile, RefusesFile, MakesTree};
 ghost use Rattle.gopher_tree.specs.Found.{file_data, lent_file};
 
 pub(crate) mod file;
@@ -145,8 +145,7 @@ impl Tree {
     // Whether a file is before this position of a path.
     fn is_file_before(&self, path: &[u8], place: usize) -> bool
         requires { place < length path.now }
-        ensures { result
-            ≡ (slice_index path.now place == 47 && is_file self.now (take place path.now)) }
+        ensures { result ≡ leads_at (is_file self.now) path.now place }
     {
         path[place] == b'/' && self.file_at(&path[..place]).is_some()
     }
@@ -172,8 +171,7 @@ impl Tree {
     // How many folders that don't exist are before this position of a path: 1 or 0.
     fn new_folder_at(&self, path: &[u8], place: usize) -> usize
         requires { place < length path.now }
-        ensures count { result ≡ (if slice_index path.now place == 47
-            && is_missing self.now (take place path.now) then 1 else 0) }
+        ensures count { result ≡ (if leads_at (is_missing self.now) path.now place then 1 else 0) }
         ensures bound { result ≤ 1 }
     {
         usize::from(path[place] == b'/' && !self.has_node(&path[..place]))
@@ -182,8 +180,7 @@ impl Tree {
     // How many nodes a path adds.
     fn new_nodes(&self, path: &[u8]) -> usize
         requires { 0 < length path.now }
-        ensures count { length (fold add_path (nodes self.now) (paths_of path.now))
-            ≡ length (nodes self.now) + result }
+        ensures count { length (nodes_with self.now path.now) ≡ length (nodes self.now) + result }
         ensures bound { result ≤ length path.now }
     {
         let mut count = 0;
@@ -240,8 +237,8 @@ impl Tree {
         path: Vec<u8>,
         bytes: Vec<u8>,
     ) -> Result<Tree, TreeFault>
-        ensures { AddsFile (file_fault self (path.items, bytes.items))
-            (self ++ (path.items, bytes.items) ∷ []) result }
+        ensures added { IfOk result (AddsFile self (path.items, bytes.items)) }
+        ensures refused { IfErr result (RefusesFile self (path.items, bytes.items)) }
     {
         if let Some(fault) = self.file_fault(&path, &bytes) {
             return Err(fault);

@@ -3,12 +3,12 @@
 //! A name can vanish between any two calls, because other programs change the folder while it is
 //! read. A name that has vanished counts as a link that leads nowhere.
 
-ghost use Rattle.std.specs.Prelude.{◌≡◌, ◌≢◌, [], IfErr, IfOk, None, OnOk, Some, map, string_bytes, string_cmp};
+ghost use Rattle.std.specs.Prelude.{◌≡◌, ◌≢◌, [], IfErr, IfOk, None, OnOk, Some, string_cmp};
 ghost use Rattle.std.specs.List.Sorted.{IsSorted};
 ghost use Rattle.std.specs.Fs.{IsDir, IsFile, file_type, metadata_len};
 ghost use Rattle.std.specs.IoError.{error_kind};
 ghost use Rattle.std.specs.declared.io.ErrorKind.TheVariants.{OutOfMemory};
-ghost use Rattle.gopher_tree.specs.Load.{is_shown, with_shown, AreShown, CountsHidden, HasSize, IsUnreadable, most_read, ReadsMost};
+ghost use Rattle.gopher_tree.specs.Load.{is_shown, AddsShown, AreShown, CountsHidden, HasSize, IsUnreadable, most_read, ReadsMost};
 
 use crate::fault::TreeFault;
 use crate::tree::MAX_FILE;
@@ -62,8 +62,7 @@ fn push_shown(
 ) -> Result<(), AllocError>
     requires { AreShown names.old.items }
     ensures shown { AreShown names.new.items }
-    ensures kept { OnOk result (map (λ each. string_bytes each) names.new.items
-        ≡ with_shown (map (λ each. string_bytes each) names.old.items) name.now) }
+    ensures kept { OnOk result (AddsShown names.old names.new name.now) }
     ensures counted { CountsHidden hidden.old hidden.new name.now }
 {
     if is_shown(name.as_bytes()) {
@@ -150,15 +149,14 @@ pub(crate) fn target_of<R: Files>(
 }
 
 // The target by its metadata.
-fn target_found(found: fs::Metadata) -> Target
-    ensures folder { IsDir (file_type found) → result ≡ Target.Folder }
-    ensures file { IsFile (file_type found) → result ≡ Target.File }
-    ensures neither { (IsDir (file_type found) → ⊥) → (IsFile (file_type found) → ⊥)
-        → result ≡ Target.Neither }
+fn target_found(meta: fs::Metadata) -> Target
+    ensures folder { IsDir (file_type meta) → result ≡ Target.Folder }
+    ensures file { IsFile (file_type meta) → result ≡ Target.File }
+    ensures other { ¬ IsDir (file_type meta) → ¬ IsFile (file_type meta) → result ≡ Target.Neither }
 {
-    if found.is_dir() {
+    if meta.is_dir() {
         Target::Folder
-    } else if found.is_file() {
+    } else if meta.is_file() {
         Target::File
     } else {
         Target::Neither
@@ -183,15 +181,14 @@ pub(crate) fn without_links<R: Files>(
 
 // How many bytes of an open file are read: at most its length, and one over the largest file;
 // `None` if it isn't a regular file.
-fn most_read(found: &fs::Metadata) -> Option<u64>
-    ensures file { IsFile (file_type found.now)
-        → result ≡ Some (most_read (metadata_len found.now)) }
-    ensures other { (IsFile (file_type found.now) → ⊥) → result ≡ None }
+fn most_read(meta: &fs::Metadata) -> Option<u64>
+    ensures file { IsFile (file_type meta.now) → result ≡ Some (most_read (metadata_len meta.now)) }
+    ensures other { ¬ IsFile (file_type meta.now) → result ≡ None }
 {
-    if !found.is_file() {
+    if !meta.is_file() {
         return None;
     }
-    Some(found.len().min(MAX_READ))
+    Some(meta.len().min(MAX_READ))
 }
 
 // The bytes of a file; `None` if it has vanished, or its path leads to no regular file by now.

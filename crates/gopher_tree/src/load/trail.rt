@@ -1,7 +1,7 @@
 //! `Trail`: what a walk through a folder of the file system has met.
 
-ghost use Rattle.std.specs.Prelude.{◌≡◌, [], ◌∷◌, ◌++◌, length, map, OnOk, IfErr};
-ghost use Rattle.gopher_tree.specs.Load.{EntersFolder, StopsAtFolder, leaves_no_room};
+ghost use Rattle.std.specs.Prelude.{◌≡◌, [], length, OnOk, IfErr};
+ghost use Rattle.gopher_tree.specs.Load.{AddsPath, EntersFolder, StopsAtFolder, leaves_no_room};
 
 use crate::fault::TreeFault;
 use crate::tree::MAX_NODES;
@@ -82,8 +82,7 @@ impl Trail {
 
 // Appends a path.
 fn note(alloc: Global, path: &[u8], paths: &mut Vec<Vec<u8>>) -> Result<(), NoMemory>
-    ensures { OnOk result (map (λ p. p.items) paths.new.items
-        ≡ map (λ p. p.items) paths.old.items ++ path.now ∷ []) }
+    ensures { OnOk result (AddsPath paths.old paths.new path.now) }
 {
     paths.push(Vec::from_slice(alloc, path)?)?;
     Ok(())

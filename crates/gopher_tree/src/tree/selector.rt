@@ -1,12 +1,11 @@
 //! `Tree::find` and `Tree::reply`: the node and the reply at a selector.
 
-ghost use Rattle.std.specs.Prelude.{◌≡◌, map, IfOk, OnOk};
+ghost use Rattle.std.specs.Prelude.{◌≡◌, IfOk, OnOk};
 ghost use Rattle.std.specs.Option.{option_copied};
-ghost use Rattle.gopher_tree.specs.Kind.{kind_of};
 ghost use Rattle.gopher_tree.specs.Path.{rest_after};
 ghost use Rattle.gopher_tree.specs.Files.{file_at, child_of_rest, with_child, children};
 ghost use Rattle.gopher_tree.specs.Reply.{named_by, named, menu_file, folder_reply, tree_reply};
-ghost use Rattle.gopher_tree.specs.Found.{Shows, child_data, lent_child};
+ghost use Rattle.gopher_tree.specs.Found.{Shows, child_data, listed};
 
 use crate::reply::{Children, file_reply, listing_reply, not_found, written_reply};
 use crate::tree::file::File;
@@ -18,8 +17,7 @@ use std::collections::BTreeMap;
 
 // The child that leads to a file, and its type; the paths in the folder begin with `prefix`.
 fn child_after<'a>(prefix: &[u8], file: &'a File) -> Option<(&'a [u8], u8)>
-    ensures { child_data result
-        ≡ child_of_rest (kind_of file.now.0 file.now.1) (rest_after prefix.now file.now.0) }
+    ensures { child_data result ≡ child_of_rest file.now (rest_after prefix.now file.now.0) }
 {
     let rest = file.path().strip_prefix(prefix)?;
     match split_once(b'/', rest) {
@@ -30,12 +28,11 @@ fn child_after<'a>(prefix: &[u8], file: &'a File) -> Option<(&'a [u8], u8)>
 }
 
 // Adds a child, if there is one.
-fn add_child<'a>(child: Option<(&'a [u8], u8)>, children: &mut Children<'a>) -> Result<(), NoMemory>
-    ensures { OnOk result (map lent_child children.new.entries
-        ≡ with_child (map lent_child children.old.entries) (child_data child.entry)) }
+fn add_child<'a>(child: Option<(&'a [u8], u8)>, out: &mut Children<'a>) -> Result<(), NoMemory>
+    ensures { OnOk result (listed out.new ≡ with_child (listed out.old) (child_data child.entry)) }
 {
     if let Some((name, kind)) = child {
-        children.insert(name, kind)?;
+        out.insert(name, kind)?;
     }
     Ok(())
 }
@@ -43,8 +40,7 @@ fn add_child<'a>(child: Option<(&'a [u8], u8)>, children: &mut Children<'a>) -> 
 impl Tree {
     // The names in a folder.
     fn children(&self, alloc: Global, folder: &[u8]) -> Result<Children<'_>, NoMemory>
-        ensures { IfOk result (λ names. map lent_child names.entries
-            ≡ children self.now folder.now) }
+        ensures { IfOk result (λ names. listed names ≡ children self.now folder.now) }
     {
         let prefix = prefix_of(alloc, folder)?;
         let mut children = BTreeMap::new(alloc);

@@ -6,4 +6,4 @@ use Rattle.gopher_tree.specs.Found.{lent_child}
 use Rattle.gopher_tree.proofs.reply.push_names.Given as goal
 
 abbrev pub invariant-loop-name : goal.invariant-loop-name
-invariant-loop-name l = l.out.items ++ flat_map menu_line_bytes (map (child_line l.home l.front) (map lent_child l.name-iterator)) ≡ l.fn.out.items ++ flat_map menu_line_bytes (map (child_line l.home l.front) (map lent_child l.children.entries))
+invariant-loop-name l = l.out.items ++ flat_map menu_line_bytes (map (child_line l.home l.front) (map lent_child l.name-iterator)) ≡ l.fn.out.items ++ flat_map menu_line_bytes (map (child_line l.home l.front) (map lent_child l.names.entries))

@@ -1,7 +1,7 @@
-use Rattle.std.proofs.Common.{◌≡◌, List, [], ◌∷◌, ◌++◌, map, Ok, Err, Global, rules, sym, ap, subst, ◌∙◌}
+use Rattle.std.proofs.Common.{◌≡◌, List, ◌∷◌, ◌++◌, map, Err, Global, rules, sym, ap, subst, ◌∙◌}
 use Rattle.std.specs.Vec.Iter.{into_iter_items}
 use Rattle.gopher_tree.specs.Files.{File}
-use Rattle.gopher_tree.specs.Fault.{file_fault, fault_after, files_fault, AddsFile, MakesTree}
+use Rattle.gopher_tree.specs.Fault.{fault_after, files_fault, AddsFile, RefusesFile, MakesTree}
 use Rattle.gopher_tree.specs.Found.{file_data}
 use Rattle.gopher_tree.proofs.FaultLemmas.{makes_refused, makes_on}
 use Rattle.gopher_tree.proofs.tree.Tree.of_files.Goals as goal
@@ -15,9 +15,9 @@ returns-in_err-tree c =
     let items : into_iter_items c.loop-path.path-iterator ≡ (c.in-Some.path, c.in-Some.bytes) ∷ into_iter_items c.next.new.self = search rules in
     let due = ap (λ l. fault_after done (map (file_data {A = Global} {B = Global}) l)) (sym items) ∙ c.loop-path.invariant.0 in
     let all = ap (λ l. done ++ map (file_data {A = Global} {B = Global}) l) (sym items) ∙ c.loop-path.invariant.2 in
-    let adds : AddsFile (file_fault done file) (done ++ file ∷ []) (Err c.in_err-tree.field-0.0) = search rules in
+    let adds : RefusesFile done file c.in_err-tree.field-0.0 = search rules in
     let result_is : c.from_residual.result ≡ Err c.in_err-tree.field-0.0 = search rules in
-    subst (MakesTree files) (sym result_is) (makes_refused done rest file files (done ++ file ∷ []) c.in_err-tree.field-0.0 due all c.loop-path.invariant.1 adds)
+    subst (MakesTree files) (sym result_is) (makes_refused done rest file files c.in_err-tree.field-0.0 due all c.loop-path.invariant.1 adds)
 
 pub loop-path-preserved : goal.loop-path-preserved
 loop-path-preserved c =
@@ -28,6 +28,6 @@ loop-path-preserved c =
     let items : into_iter_items c.loop-path.path-iterator ≡ (c.in-Some.path, c.in-Some.bytes) ∷ into_iter_items c.next.new.self = search rules in
     let due = ap (λ l. fault_after done (map (file_data {A = Global} {B = Global}) l)) (sym items) ∙ c.loop-path.invariant.0 in
     let all = ap (λ l. done ++ map (file_data {A = Global} {B = Global}) l) (sym items) ∙ c.loop-path.invariant.2 in
-    let adds : AddsFile (file_fault done file) (done ++ file ∷ []) (Ok c.in_ok-tree.tree) = search rules in
+    let adds : AddsFile done file c.in_ok-tree.tree = search rules in
     let on = makes_on done rest file (files_fault files) c.in_ok-tree.tree due c.loop-path.invariant.1 adds in
     (on.0, on.1, on.2 ∙ all)

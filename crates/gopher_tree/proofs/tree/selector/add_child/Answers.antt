@@ -23,5 +23,5 @@ lent_put (e ∷ es) name kind = by (slice_cmp nat_cmp name.now e.0.now) (lent_pu
 
 pub returns-in_ok-insert : goal.returns-in_ok-insert
 returns-in_ok-insert c =
-    let old = c.args.children.now.entries in
+    let old = c.args.out.now.entries in
     ap (map lent_child) c.in_ok-insert.ensures.entries ∙ lent_put old c.in-Some.name c.in-Some.kind ∙ sym (ap (λ child. with_child (map lent_child old) (child_data child)) c.in-Some.is)
