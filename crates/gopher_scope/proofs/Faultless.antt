@@ -13,7 +13,7 @@ use Rattle.gopher_item.specs.declared.fault.ItemFault.{ItemFault}
 use Rattle.gopher_item.specs.declared.fault.ItemFault.TheVariants.{NoMemory}
 use Rattle.gopher_item.specs.Fault.{Makes}
 use Rattle.gopher_scope.specs.Rows.{integer_read, text_read, all_keys, key_row, element_fields, field_row, absent_text, is_in_range, elements, first_of, value_at, key_value, field_problem, integer_problem, number_read, text_problem, scalar_problem, table_problem, integer_in, text_in, element_problem, array_problem, values_read, form_problem, have_unknown}
-use Rattle.gopher_scope.specs.Settings.{key_fault, settings_fault, settings_read, settings_data, settings_of, read_or, kind_read, Answers, ReadsTable, IsUpTo, AreInRange, AreValuesIn, SettingsData}
+use Rattle.gopher_scope.specs.Settings.{key_fault, settings_fault, settings_read, settings_data, settings_of, kind_read, Answers, ReadsTable, IsUpTo, AreInRange, AreValuesIn, SettingsData}
 use Rattle.gopher_scope.specs.declared.settings.Settings.{Settings}
 use Rattle.gopher_scope.specs.declared.fault.SettingsFault.{SettingsFault}
 use Rattle.gopher_scope.specs.declared.fault.SettingsFault.TheVariants.{NoMemory as NoMemoryLeft}
@@ -200,6 +200,6 @@ answers_stand text table result is answers =
 pub settings_of-refused : (table : Members) (found : SettingsFault) → ReadsTable table (Err found) → found ≢ NoMemoryLeft → settings_of (Some table) ≡ Err found
 settings_of-refused table found answers other = by (settings_fault table) answers
   where
-    by : (fault : Option SettingsFault) → Answers fault (settings_read table) (Err found) → read_or fault (settings_read table) ≡ Err found
+    by : (fault : Option SettingsFault) → Answers fault (settings_read table) (Err found) → option_map_or Err fault (Ok (settings_read table)) ≡ Err found
     by (Some fault) same = cc
     by None memory = absurd (other memory)

@@ -1,4 +1,5 @@
 pub mod Rows
 pub mod Settings
 pub mod Fault
+pub mod Lines
 pub mod Report

@@ -1,6 +1,6 @@
 -- The keys of the settings and the valid values of each: the fault of a key's value, if it has one,
 -- the value that is read, and all unknown keys.
-use Rattle.std.specs.Prelude.{ℕ, Bool, not, List, [], ◌∷◌, length, Option, None, Some, codes, nat_eq, ◌==◌, ◌||◌, ℤ, pos, negsuc, ◌&&◌, is_some, unwrap_or, nat_le, if◌then◌else◌, ◌≡◌, true, false, ◌++◌, filter, map, Result, OnOk}
+use Rattle.std.specs.Prelude.{ℕ, Bool, not, List, [], ◌∷◌, length, Option, None, Some, codes, nat_eq, ◌==◌, ◌||◌, ℤ, pos, negsuc, ◌&&◌, is_some, unwrap_or, nat_le, if◌then◌else◌, true, false, ◌++◌, filter, map}
 use Rattle.std.specs.Cmp.Lexicographic.{pointwise}
 use Rattle.gopher_item.specs.Place.{is_host, is_selector}
 use Rattle.gopher_scope.specs.declared.settings.key.Key.{Key}
@@ -13,16 +13,11 @@ use Rattle.gopher_scope.specs.declared.settings.tables.Element.{Element}
 use Rattle.gopher_scope.specs.declared.settings.tables.Element.TheVariants as element
 use Rattle.gopher_scope.specs.declared.settings.row.TextKind.{TextKind}
 use Rattle.gopher_scope.specs.declared.settings.row.TextKind.TheVariants.{Host, Path, PlaceKind, Selector}
-use Rattle.std.specs.Borrow.{Bor}
-use Rattle.std.specs.Option.{option_map, option_or, option_map_or}
+use Rattle.std.specs.Option.{option_or, option_map_or}
 use Rattle.toml.specs.Data.{Data, Items, no_items, item, Members, get_member, as_integer, as_str, as_array, as_table, no_members, member}
-use Rattle.toml.specs.View.{view}
-use Rattle.toml.specs.declared.value.Value.{Value}
 use Rattle.gopher_scope.specs.declared.settings.row.Problem.{Problem}
 use Rattle.gopher_scope.specs.declared.settings.row.Problem.TheVariants.{Missing, WrongKind, OutOfRange}
-use Rattle.std.specs.Global.{Vec}
 use Rattle.std.specs.List.{flat_map, list_any}
-use Rattle.gopher_scope.specs.declared.settings.unknown.UnknownKey.{UnknownKey}
 
 -- ---- rows
 
@@ -111,10 +106,6 @@ abbrev pub elements : Items → List Data
 elements no_items = []
 elements (item value more) = value ∷ elements more
 
--- the value of a key as data, if it has one
-abbrev pub value_data : Option (Bor Value) → Option Data
-value_data value = option_map (λ v. view v.now) value
-
 -- the value of the key of a row
 abbrev pub value_at : Members → RowData → Option Data
 value_at table row = get_member row.0 table
@@ -180,18 +171,6 @@ values_read (Some value) = option_map_or elements (as_array value) []
 -- its name
 abbrev pub Unknown : Type 0
 Unknown = Option Key × List ℕ
-
-abbrev pub unknown_data : UnknownKey → Unknown
-unknown_data key = (key.array, key.name.now)
-
--- these unknown keys were appended, unless the call failed
-abbrev pub AddsUnknown : {T E : Type 0} → Vec UnknownKey → Vec UnknownKey → List Unknown
-    → Result T E → Type 0
-AddsUnknown old new keys result =
-    OnOk result (map unknown_data new.items ≡ map unknown_data old.items ++ keys)
-
-abbrev pub AreUnknown : List Unknown → Vec UnknownKey → Type 0
-AreUnknown keys found = map unknown_data found.items ≡ keys
 
 -- the names of a table's keys, in its order
 abbrev pub table_names : Members → List (List ℕ)

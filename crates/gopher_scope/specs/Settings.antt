@@ -1,7 +1,7 @@
 -- Settings and how they are read.
 use Rattle.std.specs.Prelude.{◌≡◌, ◌≢◌, ℕ, pos, ◌<◌, ◌≤◌, List, length, map, Option, None, Some, IfSome, IsSomeAnd, MatchOption, Result, Ok, Err, nat_eq, codes, string_bytes, if◌then◌else◌}
 use Rattle.std.specs.List.{filter_map}
-use Rattle.std.specs.Option.{option_map}
+use Rattle.std.specs.Option.{option_map, option_map_or}
 use Rattle.std.specs.Cmp.Lexicographic.{pointwise}
 use Rattle.toml.specs.Data.{Data, Members, get_member, as_integer, as_str, as_table}
 use Rattle.toml.specs.Parse.{parse_document}
@@ -122,13 +122,15 @@ rules_read values = map rule_read (filter_map as_table values)
 abbrev pub rules_at : Members → Key → List RuleData
 rules_at table key = rules_read (elements_at table key)
 
+-- the server's address
+abbrev pub home_read : Members → HomeData
+home_read table =
+    record { host = text_read table (key_row key.Host); port = integer_read table (key_row key.Port) }
+
 -- the settings of a table without a fault
 abbrev pub settings_read : Members → SettingsData
 settings_read table = record {
-  home = record {
-    host = text_read table (key_row key.Host);
-    port = integer_read table (key_row key.Port);
-  };
+  home = home_read table;
   root = text_read table (key_row key.Root);
   seeds = seeds_read (elements_at table key.Seeds);
   scope = record { allow = rules_at table key.Allow; deny = rules_at table key.Deny };
@@ -138,15 +140,10 @@ settings_read table = record {
   tries = integer_read table (key_row key.Tries);
 }
 
--- the settings of a table, or its fault
-abbrev pub read_or : Option SettingsFault → SettingsData → Result SettingsData SettingsFault
-read_or None settings = Ok settings
-read_or (Some found) settings = Err found
-
 -- the result of reading a text, given its table if it is TOML
 abbrev pub settings_of : Option Members → Result SettingsData SettingsFault
 settings_of None = Err fault.NotToml
-settings_of (Some table) = read_or (settings_fault table) (settings_read table)
+settings_of (Some table) = option_map_or Err (settings_fault table) (Ok (settings_read table))
 
 -- reading a table fails with its fault, returns the settings, or is out of memory
 abbrev pub Answers : Option SettingsFault → SettingsData → Result Settings SettingsFault → Type 0
@@ -157,10 +154,6 @@ Answers None settings (Err found) = found ≡ fault.NoMemory
 -- reading this table fails with its fault, returns its settings, or is out of memory
 abbrev pub ReadsTable : Members → Result Settings SettingsFault → Type 0
 ReadsTable table result = Answers (settings_fault table) (settings_read table) result
-
--- these are the settings of a table without a fault
-abbrev pub AreReadFrom : Members → Settings → Type 0
-AreReadFrom table settings = settings_data settings ≡ settings_read table
 
 -- these are the settings in a text, which has no fault
 abbrev pub AreSettingsOf : List ℕ → Settings → Type 0

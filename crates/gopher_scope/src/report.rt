@@ -1,11 +1,12 @@
 //! The report of `hole check`: on settings, their folder and their seeds; and which line or key it
 //! names.
 
-ghost use Rattle.std.specs.Prelude.{◌≡◌, ◌++◌, [], None, Some, IfOk, IfSome, OnOk};
+ghost use Rattle.std.specs.Prelude.{◌≡◌, [], None, Some, IfOk, IfSome};
 ghost use Rattle.toml.specs.View.{table_view};
 ghost use Rattle.gopher_item.specs.Scope.{first_outside};
 ghost use Rattle.gopher_scope.specs.Settings.{settings_data};
 ghost use Rattle.gopher_scope.specs.declared.fault.SiteFault.TheVariants.{SettingsUnreadable};
+ghost use Rattle.gopher_scope.specs.Lines.{Puts};
 ghost use Rattle.gopher_scope.specs.Report.{hint_line, line_of_fault, IsReportOf, IsReportOnFolder, IsReportOnBroken, IsReportOnMemory, IsReportOnSite, IsReportOnTable, IsReportOnText, key_of, toml_fault_line, IsKeyOf, IsTomlFault};
 
 mod fault_report;
@@ -60,7 +61,7 @@ fn line_of_fault(fault: TreeFault) -> Option<usize>
 
 // Appends the line that says why a root that begins with `~` isn't there.
 fn push_hint(root: &str, how: Obstacle, out: &mut Vec<u8>) -> Pushed
-    ensures { OnOk result (out.new.items ≡ out.old.items ++ hint_line root.now how) }
+    ensures { Puts (hint_line root.now how) out.old out.new result }
 {
     match (root.as_bytes(), how) {
         ([b'~', ..], Obstacle::Missing) => {

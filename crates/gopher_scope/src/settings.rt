@@ -2,8 +2,8 @@
 
 ghost use Rattle.std.specs.Prelude.{◌≡◌, None, IfOk, IfErr};
 ghost use Rattle.toml.specs.View.{table_view};
-ghost use Rattle.gopher_scope.specs.Rows.{integer_read, key_row, text_read};
-ghost use Rattle.gopher_scope.specs.Settings.{settings_data, settings_fault, rules_at, ReadsTable, AreReadFrom, AreSettingsOf, AreInRange, AreValuesInText, IsFaultOf};
+ghost use Rattle.gopher_scope.specs.Rows.{integer_read, key_row};
+ghost use Rattle.gopher_scope.specs.Settings.{settings_data, settings_fault, home_read, settings_read, rules_at, ReadsTable, AreSettingsOf, AreInRange, AreValuesInText, IsFaultOf};
 
 mod check;
 mod items;
@@ -52,10 +52,7 @@ fn integer_at(table: &Table, key: Key) -> u32
 
 fn home(alloc: Global, table: &Table) -> Result<Home, NoMemory>
     requires { settings_fault (table_view table.now) ≡ None }
-    ensures host { IfOk result
-        (λ home. home.host ≡ text_read (table_view table.now) (key_row Key.Host)) }
-    ensures port { IfOk result
-        (λ home. home.port ≡ integer_read (table_view table.now) (key_row Key.Port)) }
+    ensures { IfOk result (λ home. home ≡ home_read (table_view table.now)) }
 {
     let host = Key::Host.row().text(table).as_bytes();
     match Home::new(alloc, host, integer_at(table, Key::Port) as u16) {
@@ -77,7 +74,7 @@ fn scope_at(alloc: Global, table: &Table) -> Result<Scope, NoMemory>
 
 fn settings_read(alloc: Global, table: &Table) -> Result<Settings, NoMemory>
     requires { settings_fault (table_view table.now) ≡ None }
-    ensures { IfOk result (AreReadFrom (table_view table.now)) }
+    ensures { IfOk result (λ s. settings_data s ≡ settings_read (table_view table.now)) }
 {
     Ok(Settings {
         home: home(alloc, table)?,

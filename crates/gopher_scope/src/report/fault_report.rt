@@ -1,6 +1,7 @@
 //! The report of a fault: number, path, line, key, seed or size, cause and remedy.
 
-ghost use Rattle.std.specs.Prelude.{◌≡◌, ◌++◌, IfOk, OnOk};
+ghost use Rattle.std.specs.Prelude.{IfOk};
+ghost use Rattle.gopher_scope.specs.Lines.{Puts};
 ghost use Rattle.gopher_scope.specs.Report.{named_line, unknown_detail, detail, line_detail, fault_report, IsReportOf};
 
 use super::lines::{push_number, push_words};
@@ -24,7 +25,7 @@ pub struct Report {
 
 // Appends the line of a name, unless it is empty.
 fn push_name(front: &[u8], name: &[u8], out: &mut Vec<u8>) -> Pushed
-    ensures { OnOk result (out.new.items ≡ out.old.items ++ named_line front.now name.now) }
+    ensures { Puts (named_line front.now name.now) out.old out.new result }
 {
     match name {
         [] => Ok(()),
@@ -34,7 +35,7 @@ fn push_name(front: &[u8], name: &[u8], out: &mut Vec<u8>) -> Pushed
 
 // Appends an unknown key, after the key of its array if it is in one.
 fn push_unknown(array: Option<Key>, key: &[u8], out: &mut Vec<u8>) -> Pushed
-    ensures { OnOk result (out.new.items ≡ out.old.items ++ unknown_detail array key.now) }
+    ensures { Puts (unknown_detail array key.now) out.old out.new result }
 {
     match array {
         None => push_name(b"key: ", key, out),
@@ -47,7 +48,7 @@ fn push_unknown(array: Option<Key>, key: &[u8], out: &mut Vec<u8>) -> Pushed
 
 // Appends the key, the seed or the number that a fault names.
 fn push_detail(fault: SiteFault, array: Option<Key>, key: &[u8], out: &mut Vec<u8>) -> Pushed
-    ensures { OnOk result (out.new.items ≡ out.old.items ++ detail fault array key.now) }
+    ensures { Puts (detail fault array key.now) out.old out.new result }
 {
     match fault {
         SiteFault::Settings(
@@ -69,7 +70,7 @@ fn push_detail(fault: SiteFault, array: Option<Key>, key: &[u8], out: &mut Vec<u
 
 // Appends the number of a line, if there is one.
 fn push_line(line: Option<usize>, out: &mut Vec<u8>) -> Pushed
-    ensures { OnOk result (out.new.items ≡ out.old.items ++ line_detail line) }
+    ensures { Puts (line_detail line) out.old out.new result }
 {
     match line {
         Some(line) => push_number(b"line: ", line, out),
@@ -89,8 +90,7 @@ pub fn push_fault(
     key: &[u8],
     out: &mut Vec<u8>,
 ) -> Pushed
-    ensures { OnOk result (out.new.items
-        ≡ out.old.items ++ fault_report fault path.now line array key.now) }
+    ensures { Puts (fault_report fault path.now line array key.now) out.old out.new result }
 {
     let (cause, remedy) = fault.explain();
     push_number(b"fault: ", usize::from(fault.code()), out)?;

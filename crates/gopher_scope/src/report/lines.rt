@@ -1,7 +1,6 @@
 //! Appending one line to a report: texts in their shown form, numbers, addresses.
 
-ghost use Rattle.std.specs.Prelude.{◌≡◌, ◌++◌, OnOk};
-ghost use Rattle.gopher_scope.specs.Report.{shown_byte, shown, words_line, count_words, number_line, server_words, place_rest};
+ghost use Rattle.gopher_scope.specs.Lines.{Puts, shown_byte, shown, words_line, count_words, number_line, server_words, place_rest};
 
 use crate::fault::Pushed;
 use gopher_item::is_control;
@@ -9,7 +8,7 @@ use itoa::Buffer;
 
 // Appends one byte in its shown form.
 fn push_byte(byte: u8, out: &mut Vec<u8>) -> Pushed
-    ensures { OnOk result (out.new.items ≡ out.old.items ++ shown_byte byte) }
+    ensures { Puts (shown_byte byte) out.old out.new result }
 {
     match byte {
         b'\t' => out.extend_from_slice(b"\\t"),
@@ -24,7 +23,7 @@ fn push_byte(byte: u8, out: &mut Vec<u8>) -> Pushed
 /// Appends bytes in their shown form: a TAB, LF, CR and backslash as `\t`, `\n`, `\r` and `\\`, any
 /// other control byte as `\?`.
 pub fn push_shown(bytes: &[u8], out: &mut Vec<u8>) -> Pushed
-    ensures { OnOk result (out.new.items ≡ out.old.items ++ shown bytes.now) }
+    ensures { Puts (shown bytes.now) out.old out.new result }
 {
     for byte in bytes {
         push_byte(*byte, out)?;
@@ -34,7 +33,7 @@ pub fn push_shown(bytes: &[u8], out: &mut Vec<u8>) -> Pushed
 
 /// Appends a line: the name of a value, and its text.
 pub fn push_words(front: &[u8], words: &[u8], out: &mut Vec<u8>) -> Pushed
-    ensures { OnOk result (out.new.items ≡ out.old.items ++ words_line front.now words.now) }
+    ensures { Puts (words_line front.now words.now) out.old out.new result }
 {
     out.extend_from_slice(front)?;
     push_shown(words, out)?;
@@ -43,7 +42,7 @@ pub fn push_words(front: &[u8], words: &[u8], out: &mut Vec<u8>) -> Pushed
 
 /// Appends a text and a number.
 pub fn push_count(front: &[u8], number: usize, out: &mut Vec<u8>) -> Pushed
-    ensures { OnOk result (out.new.items ≡ out.old.items ++ count_words front.now number) }
+    ensures { Puts (count_words front.now number) out.old out.new result }
 {
     let mut digits = Buffer::new();
     out.extend_from_slice(front)?;
@@ -52,7 +51,7 @@ pub fn push_count(front: &[u8], number: usize, out: &mut Vec<u8>) -> Pushed
 
 /// Appends a line: the name of a value, and its number.
 pub fn push_number(front: &[u8], number: usize, out: &mut Vec<u8>) -> Pushed
-    ensures { OnOk result (out.new.items ≡ out.old.items ++ number_line front.now number) }
+    ensures { Puts (number_line front.now number) out.old out.new result }
 {
     push_count(front, number, out)?;
     out.extend_from_slice(b"\n")
@@ -60,7 +59,7 @@ pub fn push_number(front: &[u8], number: usize, out: &mut Vec<u8>) -> Pushed
 
 /// Appends a host and a port.
 pub fn push_server(host: &[u8], port: u16, out: &mut Vec<u8>) -> Pushed
-    ensures { OnOk result (out.new.items ≡ out.old.items ++ server_words host.now port) }
+    ensures { Puts (server_words host.now port) out.old out.new result }
 {
     push_shown(host, out)?;
     push_count(b" ", usize::from(port), out)?;
@@ -69,7 +68,7 @@ pub fn push_server(host: &[u8], port: u16, out: &mut Vec<u8>) -> Pushed
 
 /// Appends the rest of a line: a host, a port, and a selector or a prefix of selectors.
 pub fn push_address(host: &[u8], port: u16, selector: &[u8], out: &mut Vec<u8>) -> Pushed
-    ensures { OnOk result (out.new.items ≡ out.old.items ++ place_rest host.now port selector.now) }
+    ensures { Puts (place_rest host.now port selector.now) out.old out.new result }
 {
     push_server(host, port, out)?;
     push_words(b" ", selector, out)

@@ -1,26 +1,35 @@
 //! Lines of menu files that lead to their own server: to nothing, or to its search.
 
-ghost use Rattle.std.specs.Prelude.{◌≡◌, ◌++◌, map, IfOk, OnOk};
+ghost use Rattle.std.specs.Prelude.{◌≡◌, map, IfOk};
 ghost use Rattle.gopher_tree.specs.Files.{menu_files};
 ghost use Rattle.gopher_tree.specs.Found.{lent_file};
 ghost use Rattle.gopher_tree.specs.MenuFile.{written_line, line_data, server_data};
-ghost use Rattle.gopher_scope.specs.Report.{is_asked, is_own, is_dead, place_words, dead_line, offers, menu_offers, offers_search, line_warning, menu_warnings, dead_lines};
+ghost use Rattle.gopher_scope.specs.Lines.{Puts, is_asked, is_own, is_dead, place_words, dead_line, offers, menu_offers, offers_search, line_warning, menu_warnings, dead_lines};
 
 use super::lines::{push_count, push_shown, push_words};
 use crate::fault::Pushed;
 use gopher_item::{Home, NoMemory, first_line};
 use gopher_tree::{Tree, WrittenLine, written_line};
 use std::alloc::Global;
+use std::marker::Model;
 
 // The selector of the search.
 const SEARCH: &[u8] = b"/search";
 
 /// The server's address, the root as the settings spell it, and the tree of its files.
-#[derive(Clone, Copy)]
+#[derive(Drop)]
 pub struct Site<'a> {
     pub home: &'a Home,
     pub root: &'a str,
     pub tree: &'a Tree,
+}
+
+impl<'a> Model for Site<'a> {
+    ghost use Rattle.gopher_scope.specs.Lines.{SiteData};
+
+    ghost Value = { SiteData };
+
+    ghost view = { λ s. record { home = s.home.now; root = s.root.now; files = s.tree.now } };
 }
 
 // Whether a line is of the server with this address.
@@ -42,7 +51,7 @@ fn is_asked(kind: u8) -> bool
 
 // Whether the server answers a line's selector with `Not found`.
 fn is_dead(site: &Site<'_>, line: WrittenLine<'_>) -> bool
-    ensures { result ≡ is_dead site.now.home.now site.now.tree.now (line_data line.entry) }
+    ensures { result ≡ is_dead site.now (line_data line.entry) }
 {
     is_asked(line.kind)
         && is_own(site.home, line.server)
@@ -53,7 +62,7 @@ fn is_dead(site: &Site<'_>, line: WrittenLine<'_>) -> bool
 
 // Appends the path of a menu file.
 fn push_place(root: &str, path: &[u8], out: &mut Vec<u8>) -> Pushed
-    ensures { OnOk result (out.new.items ≡ out.old.items ++ place_words root.now path.now) }
+    ensures { Puts (place_words root.now path.now) out.old out.new result }
 {
     push_shown(root.as_bytes(), out)?;
     out.extend_from_slice(b"/")?;
@@ -62,8 +71,7 @@ fn push_place(root: &str, path: &[u8], out: &mut Vec<u8>) -> Pushed
 
 // Appends the warning of a line that leads nowhere.
 fn push_dead(root: &str, path: &[u8], number: usize, selector: &[u8], out: &mut Vec<u8>) -> Pushed
-    ensures { OnOk result (out.new.items
-        ≡ out.old.items ++ dead_line root.now path.now number selector.now) }
+    ensures { Puts (dead_line root.now path.now number selector.now) out.old out.new result }
 {
     push_count(b"warning: line ", number, out)?;
     out.extend_from_slice(b" of ")?;
@@ -73,9 +81,7 @@ fn push_dead(root: &str, path: &[u8], number: usize, selector: &[u8], out: &mut 
 
 // Appends the warning of a line of the menu file at a path, if it leads nowhere.
 fn push_line(site: &Site<'_>, path: &[u8], number: usize, line: &[u8], out: &mut Vec<u8>) -> Pushed
-    ensures { OnOk result (out.new.items ≡ out.old.items
-        ++ line_warning site.now.home.now site.now.root.now site.now.tree.now
-        path.now number (written_line line.now)) }
+    ensures { Puts (line_warning site.now path.now number line.now) out.old out.new result }
 {
     match written_line(line) {
         Some(line) if is_dead(site, line) => {
@@ -87,9 +93,7 @@ fn push_line(site: &Site<'_>, path: &[u8], number: usize, line: &[u8], out: &mut
 
 // Appends the warnings of the menu file at a path.
 fn push_menu(site: &Site<'_>, path: &[u8], menu: &[u8], out: &mut Vec<u8>) -> Pushed
-    ensures { OnOk result (out.new.items ≡ out.old.items
-        ++ menu_warnings site.now.home.now site.now.root.now site.now.tree.now
-        (path.now, menu.now)) }
+    ensures { Puts (menu_warnings site.now (path.now, menu.now)) out.old out.new result }
 {
     let mut number = 0;
     let mut rest = menu;
@@ -103,9 +107,8 @@ fn push_menu(site: &Site<'_>, path: &[u8], menu: &[u8], out: &mut Vec<u8>) -> Pu
 
 /// Appends a warning for each line of the site's menu files that leads to nothing on its server.
 pub fn push_dead_lines(site: &Site<'_>, menus: &[(&[u8], &[u8])], out: &mut Vec<u8>) -> Pushed
-    requires { map lent_file menus.now ≡ menu_files site.now.tree.now }
-    ensures { OnOk result (out.new.items ≡ out.old.items
-        ++ dead_lines site.now.home.now site.now.root.now site.now.tree.now) }
+    requires { map lent_file menus.now ≡ menu_files site.now.files }
+    ensures { Puts (dead_lines site.now) out.old out.new result }
 {
     for menu in menus {
         push_menu(site, menu.0, menu.1, out)?;
@@ -143,8 +146,8 @@ pub fn offers_search(
     site: &Site<'_>,
     menus: &[(&[u8], &[u8])],
 ) -> Result<bool, NoMemory>
-    requires { map lent_file menus.now ≡ menu_files site.now.tree.now }
-    ensures { IfOk result (λ offered. offered ≡ offers_search site.now.home.now site.now.tree.now) }
+    requires { map lent_file menus.now ≡ menu_files site.now.files }
+    ensures { IfOk result (λ offered. offered ≡ offers_search site.now) }
 {
     if site.tree.menu_file(alloc, b"")?.is_none() {
         return Ok(true);

@@ -1,9 +1,10 @@
 //! The report of a site without a fault: address, sizes, seeds, rules and warnings.
 
-ghost use Rattle.std.specs.Prelude.{◌≡◌, ◌++◌, None, IfOk, OnOk};
+ghost use Rattle.std.specs.Prelude.{IfOk};
 ghost use Rattle.std.specs.List.{flat_map};
 ghost use Rattle.gopher_scope.specs.Settings.{settings_data};
-ghost use Rattle.gopher_scope.specs.Report.{address_lines, size_lines, seed_line, rule_lines, seeds_warning, counts_line, left_out, warnings, site_report, IsReport};
+ghost use Rattle.gopher_scope.specs.Lines.{Puts, address_lines, size_lines, seed_line, rule_lines, seeds_warning, counts_line, left_out, warnings};
+ghost use Rattle.gopher_scope.specs.Report.{IsSoundReport};
 
 use super::fault_report::{Report, Reported};
 use super::lines::{push_address, push_count, push_number, push_server, push_words};
@@ -16,7 +17,7 @@ use std::alloc::Global;
 
 // Appends the server's address and the folder.
 fn push_home(home: &Home, root: &str, out: &mut Vec<u8>) -> Pushed
-    ensures { OnOk result (out.new.items ≡ out.old.items ++ address_lines home.now root.now) }
+    ensures { Puts (address_lines home.now root.now) out.old out.new result }
 {
     out.extend_from_slice(b"address: ")?;
     push_server(home.host(), home.port(), out)?;
@@ -25,7 +26,7 @@ fn push_home(home: &Home, root: &str, out: &mut Vec<u8>) -> Pushed
 
 // Appends the numbers of files, menu files and bytes.
 fn push_sizes(tree: &Tree, out: &mut Vec<u8>) -> Pushed
-    ensures { OnOk result (out.new.items ≡ out.old.items ++ size_lines tree.now) }
+    ensures { Puts (size_lines tree.now) out.old out.new result }
 {
     push_number(b"files: ", tree.number_of_files(), out)?;
     push_number(b"menu files: ", tree.number_of_menus(), out)?;
@@ -33,7 +34,7 @@ fn push_sizes(tree: &Tree, out: &mut Vec<u8>) -> Pushed
 }
 
 fn push_seeds(seeds: &[Place], out: &mut Vec<u8>) -> Pushed
-    ensures { OnOk result (out.new.items ≡ out.old.items ++ flat_map seed_line seeds.now) }
+    ensures { Puts (flat_map seed_line seeds.now) out.old out.new result }
 {
     for seed in seeds {
         out.extend_from_slice(b"seed: ")?;
@@ -45,7 +46,7 @@ fn push_seeds(seeds: &[Place], out: &mut Vec<u8>) -> Pushed
 }
 
 fn push_rules(front: &[u8], rules: &[Rule], out: &mut Vec<u8>) -> Pushed
-    ensures { OnOk result (out.new.items ≡ out.old.items ++ rule_lines front.now rules.now) }
+    ensures { Puts (rule_lines front.now rules.now) out.old out.new result }
 {
     for rule in rules {
         out.extend_from_slice(front)?;
@@ -57,7 +58,7 @@ fn push_rules(front: &[u8], rules: &[Rule], out: &mut Vec<u8>) -> Pushed
 // Appends the line that says that searches find nothing, if there are no seeds and a menu offers a
 // search.
 fn push_seeds_warning(seeds: &[Place], offered: bool, out: &mut Vec<u8>) -> Pushed
-    ensures { OnOk result (out.new.items ≡ out.old.items ++ seeds_warning seeds.now offered) }
+    ensures { Puts (seeds_warning seeds.now offered) out.old out.new result }
 {
     if seeds.is_empty() && offered {
         return out.extend_from_slice(
@@ -69,7 +70,7 @@ fn push_seeds_warning(seeds: &[Place], offered: bool, out: &mut Vec<u8>) -> Push
 
 // Appends the line with these numbers.
 fn push_counts(empty: usize, nowhere: usize, hidden: usize, out: &mut Vec<u8>) -> Pushed
-    ensures { OnOk result (out.new.items ≡ out.old.items ++ counts_line empty nowhere hidden) }
+    ensures { Puts (counts_line empty nowhere hidden) out.old out.new result }
 {
     push_count(b"warning: not served: empty folders ", empty, out)?;
     push_count(b", links to nothing and devices ", nowhere, out)?;
@@ -79,7 +80,7 @@ fn push_counts(empty: usize, nowhere: usize, hidden: usize, out: &mut Vec<u8>) -
 
 // Appends the line that counts what isn't served, if there is something.
 fn push_left_out(tree: &Tree, trail: &Trail, out: &mut Vec<u8>) -> Pushed
-    ensures { OnOk result (out.new.items ≡ out.old.items ++ left_out tree.now trail.now) }
+    ensures { Puts (left_out tree.now trail.now) out.old out.new result }
 {
     match (
         tree.number_of_missing(&trail.folders),
@@ -99,8 +100,7 @@ fn push_warnings(
     trail: &Trail,
     out: &mut Vec<u8>,
 ) -> Result<(), NoMemory>
-    ensures { OnOk result (out.new.items ≡ out.old.items
-        ++ warnings site.now.home.now site.now.root.now site.now.tree.now seeds.now trail.now) }
+    ensures { Puts (warnings site.now seeds.now trail.now) out.old out.new result }
 {
     let menus = site.tree.menu_files(alloc)?;
     let offered = offers_search(alloc, site, &menus)?;
@@ -121,8 +121,7 @@ pub fn site_report(
     tree: &Tree,
     trail: &Trail,
 ) -> Reported
-    ensures { IfOk result
-        (IsReport None (site_report path.now (settings_data settings) tree.now trail.now)) }
+    ensures { IfOk result (IsSoundReport path.now (settings_data settings) tree.now trail.now) }
 {
     let (allow, deny) = settings.scope.into_rules();
     let (home, root) = (&settings.home, settings.root.as_str());

@@ -1,11 +1,10 @@
 //! The reports of all faults of a table of settings.
 
-ghost use Rattle.std.specs.Prelude.{◌≡◌, ◌++◌, map, IfOk, OnOk};
+ghost use Rattle.std.specs.Prelude.{◌≡◌, IfOk};
 ghost use Rattle.std.specs.List.{flat_map};
 ghost use Rattle.toml.specs.View.{table_view};
-ghost use Rattle.gopher_scope.specs.Rows.{unknown_data};
-ghost use Rattle.gopher_scope.specs.Settings.{key_fault};
-ghost use Rattle.gopher_scope.specs.Report.{unknown_report, key_report, table_report};
+ghost use Rattle.gopher_scope.specs.Lines.{Puts};
+ghost use Rattle.gopher_scope.specs.Report.{unknown_report, key_reports, table_report};
 
 use super::fault_report::push_fault;
 use crate::fault::{Pushed, SettingsFault, SiteFault};
@@ -16,8 +15,7 @@ use toml::Table;
 
 // Appends the report of an unknown key.
 fn push_unknown(path: &[u8], key: &UnknownKey<'_>, out: &mut Vec<u8>) -> Pushed
-    ensures { OnOk result (out.new.items
-        ≡ out.old.items ++ unknown_report path.now (unknown_data key.now)) }
+    ensures { Puts (unknown_report path.now key.now) out.old out.new result }
 {
     let fault = SiteFault::Settings(SettingsFault::UnknownKey);
     push_fault(fault, path, None, key.array, key.name.as_bytes(), out)
@@ -25,8 +23,7 @@ fn push_unknown(path: &[u8], key: &UnknownKey<'_>, out: &mut Vec<u8>) -> Pushed
 
 // Appends the report of each of these unknown keys.
 fn push_all_unknown(path: &[u8], keys: &[UnknownKey<'_>], out: &mut Vec<u8>) -> Pushed
-    ensures { OnOk result (out.new.items
-        ≡ out.old.items ++ flat_map (unknown_report path.now) (map unknown_data keys.now)) }
+    ensures { Puts (flat_map (unknown_report path.now) keys.now) out.old out.new result }
 {
     for key in keys {
         push_unknown(path, key, out)?;
@@ -36,8 +33,7 @@ fn push_all_unknown(path: &[u8], keys: &[UnknownKey<'_>], out: &mut Vec<u8>) -> 
 
 // Appends the report of the fault of each of these keys that has one.
 fn push_keys(path: &[u8], table: &Table, keys: &[Key], out: &mut Vec<u8>) -> Pushed
-    ensures { OnOk result (out.new.items ≡ out.old.items
-        ++ flat_map (λ key. key_report path.now (key_fault (table_view table.now) key)) keys.now) }
+    ensures { Puts (key_reports path.now (table_view table.now) keys.now) out.old out.new result }
 {
     for key in keys {
         if let Some(fault) = key_fault(table, *key) {

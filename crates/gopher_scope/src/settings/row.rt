@@ -2,10 +2,10 @@
 //! value in a table.
 
 ghost use Rattle.std.specs.Prelude.{◌≡◌, map, None};
-ghost use Rattle.std.specs.Option.{option_copied};
+ghost use Rattle.std.specs.Option.{option_copied, option_map};
 ghost use Rattle.toml.specs.Data.{as_integer, as_str};
 ghost use Rattle.toml.specs.View.{view, table_view};
-ghost use Rattle.gopher_scope.specs.Rows.{absent_text, is_in_range, integer_problem, number_read, text_problem, scalar_problem, form_problem, integer_read, text_read, values_read, value_at, value_data};
+ghost use Rattle.gopher_scope.specs.Rows.{absent_text, is_in_range, integer_problem, number_read, text_problem, scalar_problem, form_problem, integer_read, text_read, values_read, value_at};
 ghost use Rattle.gopher_scope.specs.Settings.{fault_at};
 
 use super::key::Key;
@@ -140,7 +140,7 @@ impl Model for Row {
 
 impl Row {
     fn value<'a>(&self, table: &'a Table) -> Option<&'a Value>
-        ensures { value_data result ≡ value_at (table_view table.now) self.now }
+        ensures { option_map (λ v. view v.now) result ≡ value_at (table_view table.now) self.now }
     {
         table.get(self.name)
     }

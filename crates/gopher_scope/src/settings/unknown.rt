@@ -1,24 +1,34 @@
 //! All unknown keys of settings.
 
-ghost use Rattle.std.specs.Prelude.{◌≡◌, map, None, IfOk};
+ghost use Rattle.std.specs.Prelude.{◌≡◌, None, IfOk};
 ghost use Rattle.std.specs.List.{list_any};
 ghost use Rattle.toml.specs.View.{view, table_view};
-ghost use Rattle.gopher_scope.specs.Rows.{is_key_name, is_known_in, has_unknown, array_has_unknown, have_unknown, unknown_in, array_unknown, arrays_unknown, unknown_keys, AddsUnknown, AreUnknown};
+ghost use Rattle.gopher_scope.specs.Rows.{is_key_name, is_known_in, has_unknown, array_has_unknown, have_unknown, unknown_in, array_unknown, arrays_unknown, unknown_keys};
+ghost use Rattle.gopher_scope.specs.Lines.{Puts};
 
 use super::key::Key;
 use super::row::Form;
 use crate::fault::Pushed;
 use gopher_item::NoMemory;
 use std::alloc::Global;
+use std::marker::Model;
 use toml::{Table, Value};
 
 /// An unknown key of settings.
-#[derive(Clone, Copy)]
+#[derive(Drop)]
 pub(crate) struct UnknownKey<'a> {
     /// The key of the array with the table that has it; `None` for one of the settings' own.
     pub(crate) array: Option<Key>,
     /// Its name.
     pub(crate) name: &'a str,
+}
+
+impl<'a> Model for UnknownKey<'a> {
+    ghost use Rattle.gopher_scope.specs.Rows.{Unknown};
+
+    ghost Value = { Unknown };
+
+    ghost view = { λ k. (k.array, k.name.now) };
 }
 
 // Whether one of these keys of the settings has this name.
@@ -86,7 +96,7 @@ pub(crate) fn have_unknown(table: &Table) -> bool
 
 // Appends the unknown keys of a table.
 fn push_table<'a>(table: &'a Table, array: Option<Key>, out: &mut Vec<UnknownKey<'a>>) -> Pushed
-    ensures { AddsUnknown out.old out.new (unknown_in array (table_view table.now)) result }
+    ensures { Puts (unknown_in array (table_view table.now)) out.old out.new result }
 {
     for name in table.keys() {
         let name = name.as_str();
@@ -99,7 +109,7 @@ fn push_table<'a>(table: &'a Table, array: Option<Key>, out: &mut Vec<UnknownKey
 
 // Appends the unknown keys of the tables in an array.
 fn push_array<'a>(table: &'a Table, array: Key, out: &mut Vec<UnknownKey<'a>>) -> Pushed
-    ensures { AddsUnknown out.old out.new (array_unknown (table_view table.now) array) result }
+    ensures { Puts (array_unknown (table_view table.now) array) out.old out.new result }
 {
     let values = array.row().values(table);
     for value in values {
@@ -112,7 +122,7 @@ fn push_array<'a>(table: &'a Table, array: Key, out: &mut Vec<UnknownKey<'a>>) -
 
 // Appends the unknown keys of the tables in the arrays of these keys.
 fn push_arrays<'a>(table: &'a Table, keys: &[Key], out: &mut Vec<UnknownKey<'a>>) -> Pushed
-    ensures { AddsUnknown out.old out.new (arrays_unknown (table_view table.now) keys.now) result }
+    ensures { Puts (arrays_unknown (table_view table.now) keys.now) out.old out.new result }
 {
     for key in keys {
         push_array(table, *key, out)?;
@@ -123,7 +133,7 @@ fn push_arrays<'a>(table: &'a Table, keys: &[Key], out: &mut Vec<UnknownKey<'a>>
 /// Returns all unknown keys of settings: their own by their bytes, then those of the tables in each
 /// array, in the order of `Key`.
 pub(crate) fn unknown_keys(alloc: Global, table: &Table) -> Result<Vec<UnknownKey<'_>>, NoMemory>
-    ensures { IfOk result (AreUnknown (unknown_keys (table_view table.now))) }
+    ensures { IfOk result (λ keys. keys.items ≡ unknown_keys (table_view table.now)) }
 {
     let mut keys = Vec::new(alloc);
     push_table(table, None, &mut keys)?;

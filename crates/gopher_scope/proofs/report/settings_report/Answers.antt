@@ -1,7 +1,7 @@
 use Rattle.std.proofs.Common.{[], inl, inr, None, rules, subst}
 use Rattle.std.proofs.lemmas.Result.{IfOk-weaker}
 use Rattle.gopher_scope.specs.Settings.{settings_data}
-use Rattle.gopher_scope.specs.Report.{site_report, IsReport, IsReportOf, IsReportOnFolder, IsReportOnSite}
+use Rattle.gopher_scope.specs.Report.{IsSoundReport, IsReportOf, IsReportOnFolder, IsReportOnSite}
 use Rattle.gopher_scope.specs.declared.fault.SiteFault.TheVariants.{SeedOutOfScope}
 use Rattle.gopher_scope.proofs.report.settings_report.Goals as goal
 
@@ -20,5 +20,5 @@ returns-in-Some g c =
 pub returns-in-None : goal.returns-in-None
 returns-in-None g c =
     let found = settings_data c.args.settings in let files = c.in-Ok.tree in let trail = c.load_along.new.trail in
-    IfOk-weaker c.site_report.result (IsReport None (site_report c.args.path.now found files trail)) (IsReportOnSite c.args.path.now found)
+    IfOk-weaker c.site_report.result (IsSoundReport c.args.path.now found files trail) (IsReportOnSite c.args.path.now found)
     (λ report tells. inl (files, trail, c.in-Ok.ensures, search rules, tells)) c.site_report.ensures

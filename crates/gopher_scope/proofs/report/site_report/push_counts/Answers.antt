@@ -1,5 +1,5 @@
 use Rattle.std.proofs.Common.{◌++◌, codes, ap, ◌∙◌, append_assoc}
-use Rattle.gopher_scope.specs.Report.{count_words, number_line}
+use Rattle.gopher_scope.specs.Lines.{count_words, number_line}
 use Rattle.gopher_scope.proofs.report.site_report.push_counts.Goals as goal
 
 pub returns : goal.returns

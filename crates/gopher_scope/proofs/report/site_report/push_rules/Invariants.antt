@@ -1,6 +1,6 @@
 use Rattle.std.proofs.Common.{◌≡◌, ◌++◌, take}
 use Rattle.std.specs.List.{flat_map}
-use Rattle.gopher_scope.specs.Report.{place_rest}
+use Rattle.gopher_scope.specs.Lines.{place_rest}
 use Rattle.gopher_scope.proofs.report.site_report.push_rules.Given as goal
 
 abbrev pub invariant-loop-rule : goal.invariant-loop-rule

@@ -1,9 +1,9 @@
 use Rattle.std.proofs.Common.{◌≡◌, ◌++◌, map, take}
 use Rattle.std.specs.List.{flat_map}
 use Rattle.toml.specs.View.{view}
-use Rattle.gopher_scope.specs.Rows.{unknown_data, element_unknown}
+use Rattle.gopher_scope.specs.Rows.{element_unknown}
 use Rattle.gopher_scope.proofs.settings.unknown.push_array.Given as goal
 
 abbrev pub invariant-loop-value : goal.invariant-loop-value
 invariant-loop-value l =
-    map unknown_data l.out.items ≡ map unknown_data l.fn.out.items ++ flat_map (element_unknown l.array) (map view (take l.value-index l.values))
+    l.out.items ≡ l.fn.out.items ++ flat_map (element_unknown l.array) (map view (take l.value-index l.values))

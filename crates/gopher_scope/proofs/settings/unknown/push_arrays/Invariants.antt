@@ -1,9 +1,9 @@
-use Rattle.std.proofs.Common.{◌≡◌, ◌++◌, map, take}
+use Rattle.std.proofs.Common.{◌≡◌, ◌++◌, take}
 use Rattle.std.specs.List.{flat_map}
 use Rattle.toml.specs.View.{table_view}
-use Rattle.gopher_scope.specs.Rows.{unknown_data, array_unknown}
+use Rattle.gopher_scope.specs.Rows.{array_unknown}
 use Rattle.gopher_scope.proofs.settings.unknown.push_arrays.Given as goal
 
 abbrev pub invariant-loop-key : goal.invariant-loop-key
 invariant-loop-key l =
-    map unknown_data l.out.items ≡ map unknown_data l.fn.out.items ++ flat_map (array_unknown (table_view l.table)) (take l.key-index l.keys)
+    l.out.items ≡ l.fn.out.items ++ flat_map (array_unknown (table_view l.table)) (take l.key-index l.keys)
