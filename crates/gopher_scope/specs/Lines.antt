@@ -58,7 +58,7 @@ place_rest host port selector = server_words host port ++ words_line (codes " ")
 -- ---- a site
 
 -- the server's address, the root as the settings spell it, and the files
-pub record SiteData : Type 0 where
+pub record CheckedSite : Type 0 where
   pub home : HomeData
   pub root : List ℕ
   pub files : List File
@@ -101,7 +101,7 @@ is_own home (Some server) =
 
 -- the server answers the line's selector with `Not found`; a client opens the address after `URL:`
 -- itself
-abbrev pub is_dead : SiteData → WrittenLineData → Bool
+abbrev pub is_dead : CheckedSite → WrittenLineData → Bool
 is_dead site line =
     is_asked line.kind && is_own site.home line.server
     && not (starts_with nat_eq line.selector (codes "URL:"))
@@ -116,22 +116,22 @@ dead_line root path number selector =
     ++ words_line (codes " leads nowhere: ") selector
 
 -- the warning of the line with this number of the menu file at a path, if it leads nowhere
-abbrev pub line_warning : SiteData → List ℕ → ℕ → List ℕ → List ℕ
+abbrev pub line_warning : CheckedSite → List ℕ → ℕ → List ℕ → List ℕ
 line_warning site path number line =
     option_map_or (λ l. if is_dead site l then dead_line site.root path number l.selector else [])
     (written_line line) []
 
 -- the warnings of these lines, whose numbers begin at `number`
-abbrev pub lines_warnings : SiteData → List ℕ → ℕ → List (List ℕ) → List ℕ
+abbrev pub lines_warnings : CheckedSite → List ℕ → ℕ → List (List ℕ) → List ℕ
 lines_warnings site path number [] = []
 lines_warnings site path number (line ∷ lines) =
     line_warning site path number line ++ lines_warnings site path (number + 1) lines
 
-abbrev pub menu_warnings : SiteData → File → List ℕ
+abbrev pub menu_warnings : CheckedSite → File → List ℕ
 menu_warnings site menu = lines_warnings site menu.0 1 (lines_of menu.1)
 
 -- the warnings of all menu files
-abbrev pub dead_lines : SiteData → List ℕ
+abbrev pub dead_lines : CheckedSite → List ℕ
 dead_lines site = flat_map (menu_warnings site) (menu_files site.files)
 
 -- the line is one of type `7` that leads to the server's search
@@ -144,7 +144,7 @@ abbrev pub menu_offers : HomeData → List ℕ → Bool
 menu_offers home menu = list_any (λ line. offers home (written_line line)) (lines_of menu)
 
 -- some menu offers a search: the root's listing does, if the root has no menu file
-abbrev pub offers_search : SiteData → Bool
+abbrev pub offers_search : CheckedSite → Bool
 offers_search site =
     not (is_some (menu_file site.files []))
     || list_any (λ menu. menu_offers site.home menu.1) (menu_files site.files)
@@ -172,6 +172,6 @@ seeds_warning [] true =
 seeds_warning seeds offered = []
 
 -- the lines of menus that lead nowhere, what isn't served, and a search without seeds
-abbrev pub warnings : SiteData → List PlaceData → Trail → List ℕ
+abbrev pub warnings : CheckedSite → List PlaceData → Trail → List ℕ
 warnings site seeds trail =
     dead_lines site ++ left_out site.files trail ++ seeds_warning seeds (offers_search site)

@@ -131,8 +131,8 @@ table_report path table =
 abbrev pub IsReport : Option SiteFault → List ℕ → Report → Type 0
 IsReport found words report = (report.fault ≡ found) × (report.words.items ≡ words)
 
--- the report is that of a site without a fault: the settings file, its address, its sizes, the seeds
--- and rules of its crawl, and warnings
+-- the report is that of a site without a fault: the settings file, its address, its sizes, the
+-- seeds and rules of its crawl, and warnings
 abbrev pub IsSoundReport : List ℕ → SettingsData → List File → Trail → Report → Type 0
 IsSoundReport path settings files trail =
     IsReport None

@@ -124,8 +124,10 @@ rules_at table key = rules_read (elements_at table key)
 
 -- the server's address
 abbrev pub home_read : Members → HomeData
-home_read table =
-    record { host = text_read table (key_row key.Host); port = integer_read table (key_row key.Port) }
+home_read table = record {
+  host = text_read table (key_row key.Host);
+  port = integer_read table (key_row key.Port);
+}
 
 -- the settings of a table without a fault
 abbrev pub settings_read : Members → SettingsData

@@ -25,9 +25,9 @@ pub struct Site<'a> {
 }
 
 impl<'a> Model for Site<'a> {
-    ghost use Rattle.gopher_scope.specs.Lines.{SiteData};
+    ghost use Rattle.gopher_scope.specs.Lines.{CheckedSite};
 
-    ghost Value = { SiteData };
+    ghost Value = { CheckedSite };
 
     ghost view = { λ s. record { home = s.home.now; root = s.root.now; files = s.tree.now } };
 }
