@@ -1,14 +1,13 @@
 -- A conversation that can go on at once comes farther, or a call failed. A search comes nearer its end.
-use Rattle.std.proofs.Common.{◌≡◌, ℕ, ◌+◌, ◌-◌, ◌^◌, ◌<◌, ◌≤◌, ◌⊎◌, inl, inr, min, Bool, true, false, ◌||◌, List, [], ◌++◌, length, length-append, nat_le, refl, sym, ap, ◌∙◌, subst, arith}
+use Rattle.std.proofs.Common.{◌≡◌, ℕ, ◌+◌, ◌-◌, ◌^◌, ◌<◌, ◌≤◌, ◌⊎◌, inl, inr, min, Bool, true, false, ◌||◌, List, [], ◌++◌, Option, length, length-append, nat_le, refl, sym, ap, ◌∙◌, subst, arith}
 use Rattle.std.proofs.Math.Nat.{min-le_left, min-le_right, min-eq_left}
 use Rattle.std.proofs.lemmas.Bool.Decides.{nat_tests}
 use Rattle.std.specs.Io.BufRead.{first_line}
 use Rattle.gopher_text.specs.Line.{has_feed}
-use Rattle.gopher_text.specs.Watched.{CountsFailure}
-use Rattle.gopher_serve.specs.Serve.{StreamData}
-use Rattle.gopher_serve.specs.Advance.{Steps}
+use Rattle.gopher_text.specs.Watched.{WatchedData, CountsFailure}
 use Rattle.gopher_serve.specs.Talk.{Talk, Gathers, Asks, IsTooLong, LacksMemory, Responds, is_known, known_line, IsAnswering, steps_of, talk_of}
 use Rattle.gopher_serve.specs.declared.advancing.Progress.TheVariants.{Paused, Works}
+use Rattle.gopher_serve.proofs.StepLemmas.{Steps}
 
 -- ---- pauses
 
@@ -21,7 +20,7 @@ position LacksMemory = 1027
 position (Responds line reply steps sent) = 1028 + sent
 
 -- how far it has come, and how many calls failed
-abbrev pub turns : Talk → StreamData → StreamData → ℕ
+abbrev pub turns : {R W : Type 0} → Talk → WatchedData R → WatchedData W → ℕ
 turns talk reader writer = position talk + reader.failures + writer.failures
 
 known_position : (line : List ℕ) → position (known_line line) ≡ 1027
@@ -74,39 +73,40 @@ fails old new a b rest counts was is = by (count_up a b counts)
 abbrev pub KeepsSteps : Talk → Talk → Type 0
 KeepsSteps old new = IsAnswering old → IsAnswering new × (steps_of new ≡ steps_of old)
 
--- each step after which it can go on at once counts, and is no step of a search
-pub pauses : {A : Type 0} (gives : A → A → List ℕ → List ℕ → Type 0) (talk next : Talk) (a b : A) (had left before after : StreamData)
-    → Steps gives talk next a b had left before after Paused
-    → KeepsSteps talk next × ((turns talk had before < turns next left after) ⊎ (2 ^ 64 - 1 ≤ turns next left after))
-pauses gives (Gathers bytes) next a b had left before after (inl (piece, how), answers, writer) =
-    (λ responds. absurd responds, inl (omega (arith, piece.count, ap (λ (s : StreamData). s.failures) writer, by piece.hears)))
-  where
-    by : (next ≡ talk_of false (bytes ++ piece.piece)) ⊎ (((held : List ℕ) × (Gathers bytes ≡ Gathers held)) × (next ≡ LacksMemory)) → min (length bytes) 1026 < position next
-    by (inl is) = let at = farther false bytes piece.piece (inr piece.some) in omega (arith, at, ap position is)
-    by (inr (held, lacks)) = let few = min-le_right (length bytes) 1026 in omega (arith, few, ap position lacks)
-pauses gives (Gathers bytes) next a b had left before after (inr (inl (end, how)), answers, writer) =
-    let at = farther true bytes [] (inl refl) in
-    (λ responds. absurd responds, inl (omega (arith, end.count, ap (λ (s : StreamData). s.failures) writer, at, ap position end.hears)))
-pauses gives (Gathers bytes) next a b had left before after (inr (inr (still, how)), answers, writer) = (
-  λ responds. absurd responds,
-  fails (turns (Gathers bytes) had before) (turns next left after) had.failures left.failures (position (Gathers bytes) + before.failures) still.count
-      (omega arith) (omega (arith, ap position still.talk, ap (λ (s : StreamData). s.failures) writer)),
-)
-pauses gives (Asks line) next a b had left before after (inl (reply, steps, gave, is, how), reader, writer) =
-    (λ responds. absurd responds, inl (omega (arith, ap (λ (s : StreamData). s.failures) reader, ap (λ (s : StreamData). s.failures) writer, ap position is)))
-pauses gives (Asks line) next a b had left before after (inr (same, how), reader, writer) = absurd cc
-pauses gives IsTooLong next a b had left before after (fails, same, answers, reader, writer) = absurd cc
-pauses gives LacksMemory next a b had left before after (fails, same, answers, reader, writer) = absurd cc
-pauses gives (Responds line reply steps sent) next a b had left before after (inl (talk', ready, none, same, how), answers, reader) = absurd cc
-pauses gives (Responds line reply steps sent) next a b had left before after (inr (inl (some, how)), answers, reader) =
-    (λ responds. (subst IsAnswering (sym some.is) tt, ap steps_of some.is), inl (omega (arith, ap (λ (s : StreamData). s.failures) reader, some.counted, some.some, ap position some.is)))
-pauses gives (Responds line reply steps sent) next a b had left before after (inr (inr (inl (searches, talk', same, inl (how, fewer)))), answers, reader) = absurd cc
-pauses gives (Responds line reply steps sent) next a b had left before after (inr (inr (inl (searches, talk', same, inr (how, kept)))), answers, reader) = absurd cc
-pauses gives (Responds line reply steps sent) next a b had left before after (inr (inr (inr (still, how))), answers, reader) = (
-  λ responds. (subst IsAnswering (sym still.talk) tt, ap steps_of still.talk),
-  fails (turns (Responds line reply steps sent) had before) (turns next left after) before.failures after.failures (1028 + sent + had.failures) still.count
-      (omega arith) (omega (arith, ap position still.talk, ap (λ (s : StreamData). s.failures) reader)),
-)
+module _ {R A W : Type 0} (remaining : R → Option (List ℕ)) (gives : A → A → List ℕ → List ℕ → Type 0) (contents : W → Option (List ℕ)) where
+  -- each step after which it can go on at once counts, and is no step of a search
+  pub pauses : (talk next : Talk) (had left : WatchedData R) (a b : A) (before after : WatchedData W)
+      → Steps remaining gives contents talk next had left a b before after Paused
+      → KeepsSteps talk next × ((turns talk had before < turns next left after) ⊎ (2 ^ 64 - 1 ≤ turns next left after))
+  pauses (Gathers bytes) next had left a b before after (inl (piece, how), answers, writer) =
+      (λ responds. absurd responds, inl (omega (arith, piece.count, ap (λ (s : WatchedData W). s.failures) writer, by piece.hears)))
+    where
+      by : (next ≡ talk_of false (bytes ++ piece.piece)) ⊎ (((held : List ℕ) × (Gathers bytes ≡ Gathers held)) × (next ≡ LacksMemory)) → min (length bytes) 1026 < position next
+      by (inl is) = let at = farther false bytes piece.piece (inr piece.some) in omega (arith, at, ap position is)
+      by (inr (held, lacks)) = let few = min-le_right (length bytes) 1026 in omega (arith, few, ap position lacks)
+  pauses (Gathers bytes) next had left a b before after (inr (inl (end, how)), answers, writer) =
+      let at = farther true bytes [] (inl refl) in
+      (λ responds. absurd responds, inl (omega (arith, end.count, ap (λ (s : WatchedData W). s.failures) writer, at, ap position end.hears)))
+  pauses (Gathers bytes) next had left a b before after (inr (inr (still, how)), answers, writer) = (
+    λ responds. absurd responds,
+    fails (turns (Gathers bytes) had before) (turns next left after) had.failures left.failures (position (Gathers bytes) + before.failures) still.count
+        (omega arith) (omega (arith, ap position still.talk, ap (λ (s : WatchedData W). s.failures) writer)),
+  )
+  pauses (Asks line) next had left a b before after (reader, inl (reply, steps, gave, is, how), writer) =
+      (λ responds. absurd responds, inl (omega (arith, ap (λ (s : WatchedData R). s.failures) reader, ap (λ (s : WatchedData W). s.failures) writer, ap position is)))
+  pauses (Asks line) next had left a b before after (reader, inr (same, how), writer) = absurd cc
+  pauses IsTooLong next had left a b before after (reader, (fails, same, answers), writer) = absurd cc
+  pauses LacksMemory next had left a b before after (reader, (fails, same, answers), writer) = absurd cc
+  pauses (Responds line reply steps sent) next had left a b before after (reader, answers, inl (talk', ready, none, same, how)) = absurd cc
+  pauses (Responds line reply steps sent) next had left a b before after (reader, answers, inr (inl (some, how))) =
+      (λ responds. (subst IsAnswering (sym some.is) tt, ap steps_of some.is), inl (omega (arith, ap (λ (s : WatchedData R). s.failures) reader, some.counted, some.some, ap position some.is)))
+  pauses (Responds line reply steps sent) next had left a b before after (reader, answers, inr (inr (inl (searches, talk', same, inl (how, fewer))))) = absurd cc
+  pauses (Responds line reply steps sent) next had left a b before after (reader, answers, inr (inr (inl (searches, talk', same, inr (how, kept))))) = absurd cc
+  pauses (Responds line reply steps sent) next had left a b before after (reader, answers, inr (inr (inr (still, how)))) = (
+    λ responds. (subst IsAnswering (sym still.talk) tt, ap steps_of still.talk),
+    fails (turns (Responds line reply steps sent) had before) (turns next left after) before.failures after.failures (1028 + sent + had.failures) still.count
+        (omega arith) (omega (arith, ap position still.talk, ap (λ (s : WatchedData R). s.failures) reader)),
+  )
 
 -- one more step was counted
 pub counts_on : (step was is : ℕ) → step < 2 ^ 64 - 1 → step ≤ was → (was < is) ⊎ (2 ^ 64 - 1 ≤ is) → step + 1 ≤ is
@@ -115,19 +115,20 @@ counts_on step was is few so_far (inr most) = omega (arith, few, most)
 
 -- ---- searches
 
--- a search that goes on has fewer steps left
-pub works_near : {A : Type 0} (gives : A → A → List ℕ → List ℕ → Type 0) (talk next : Talk) (a b : A) (had left before after : StreamData)
-    → Steps gives talk next a b had left before after Works → IsAnswering talk → steps_of next < steps_of talk
-works_near gives (Gathers bytes) next a b had left before after step responds = absurd responds
-works_near gives (Asks line) next a b had left before after step responds = absurd responds
-works_near gives IsTooLong next a b had left before after step responds = absurd responds
-works_near gives LacksMemory next a b had left before after step responds = absurd responds
-works_near gives (Responds line reply steps sent) next a b had left before after (inl (talk', ready, none, same, how), answers, reader) responds = absurd cc
-works_near gives (Responds line reply steps sent) next a b had left before after (inr (inl (some, inl how)), answers, reader) responds = absurd cc
-works_near gives (Responds line reply steps sent) next a b had left before after (inr (inl (some, inr (how, none))), answers, reader) responds = absurd cc
-works_near gives (Responds line reply steps sent) next a b had left before after (inr (inr (inl (searches, talk', same, inl (how, fewer)))), answers, reader) responds = fewer
-works_near gives (Responds line reply steps sent) next a b had left before after (inr (inr (inl (searches, talk', same, inr (how, kept)))), answers, reader) responds = absurd cc
-works_near gives (Responds line reply steps sent) next a b had left before after (inr (inr (inr (still, never))), answers, reader) responds = absurd never
+module _ {R A W : Type 0} (remaining : R → Option (List ℕ)) (gives : A → A → List ℕ → List ℕ → Type 0) (contents : W → Option (List ℕ)) where
+  -- a search that goes on has fewer steps left
+  pub works_near : (talk next : Talk) (had left : WatchedData R) (a b : A) (before after : WatchedData W)
+      → Steps remaining gives contents talk next had left a b before after Works → IsAnswering talk → steps_of next < steps_of talk
+  works_near (Gathers bytes) next had left a b before after step responds = absurd responds
+  works_near (Asks line) next had left a b before after step responds = absurd responds
+  works_near IsTooLong next had left a b before after step responds = absurd responds
+  works_near LacksMemory next had left a b before after step responds = absurd responds
+  works_near (Responds line reply steps sent) next had left a b before after (reader, answers, inl (talk', ready, none, same, how)) responds = absurd cc
+  works_near (Responds line reply steps sent) next had left a b before after (reader, answers, inr (inl (some, inl how))) responds = absurd cc
+  works_near (Responds line reply steps sent) next had left a b before after (reader, answers, inr (inl (some, inr (how, none)))) responds = absurd cc
+  works_near (Responds line reply steps sent) next had left a b before after (reader, answers, inr (inr (inl (searches, talk', same, inl (how, fewer))))) responds = fewer
+  works_near (Responds line reply steps sent) next had left a b before after (reader, answers, inr (inr (inl (searches, talk', same, inr (how, kept))))) responds = absurd cc
+  works_near (Responds line reply steps sent) next had left a b before after (reader, answers, inr (inr (inr (still, never)))) responds = absurd never
 
 pub keeps_joins : (talk next last : Talk) → KeepsSteps talk next → KeepsSteps next last → KeepsSteps talk last
 keeps_joins talk next last first second responds =

@@ -1,41 +1,20 @@
 -- A conversation over streams, one step after another.
-use Rattle.std.specs.Prelude.{◌≡◌, ℕ, ◌+◌, ◌-◌, ◌^◌, ◌<◌, ◌≤◌, ◌⊎◌, Bool, true, List, [], length, take, Option, Some, Result, Ok, Err, IfSome}
+use Rattle.std.specs.Prelude.{◌≡◌, ℕ, ◌+◌, ◌-◌, ◌^◌, ◌<◌, ◌≤◌, ◌⊎◌, Bool, true, List, [], ◌++◌, length, take, Option, Some, Result, Ok, Err, IfSome}
 use Rattle.std.specs.IoError.{error_kind}
 use Rattle.std.specs.declared.io.Error.{Error}
 use Rattle.std.specs.declared.io.ErrorKind.{ErrorKind}
 use Rattle.std.specs.declared.io.ErrorKind.TheVariants as kind
-use Rattle.std.specs.Io.KnownBytes.{Appends, Consumes, IsAtEnd, Keeps}
+use Rattle.std.specs.Io.KnownBytes.{Consumes, IsAtEnd, Keeps}
 use Rattle.gopher_bytes.specs.declared.line.TheConstants.{MAX_LINE}
-use Rattle.gopher_text.specs.Watched.{CountsFailure, HasFailed}
-use Rattle.gopher_serve.specs.Serve.{StreamData}
-use Rattle.gopher_serve.specs.Talk.{Talk, Gathers, Asks, IsTooLong, LacksMemory, Responds, Hears, IsAnswering, OnlySearches, heard, said, sendable_of, sent_of, steps_of, talk_of, unsent_of}
+use Rattle.gopher_text.specs.Watched.{WatchedData, CountsFailure, HasFailed, HasRead, HasSent}
+use Rattle.gopher_serve.specs.Leads.{Leads}
+use Rattle.gopher_serve.specs.Talk.{Talk, Gathers, Asks, IsTooLong, LacksMemory, Responds, Hears, HasHeard, HasReply, IsAnswering, OnlySearches, heard, said, said_of, sendable_of, sent_of, steps_of, unsent_of}
 use Rattle.gopher_serve.specs.declared.fault.ServeFault.{ServeFault}
 use Rattle.gopher_serve.specs.declared.fault.ServeFault.TheVariants.{LineTooLong, ReadFailed, TooManyTurns, WriteFailed, NoMemory}
 use Rattle.gopher_serve.specs.declared.advancing.Progress.{Progress}
 use Rattle.gopher_serve.specs.declared.advancing.Progress.TheVariants.{Done, Paused, Works, Waits, Failed}
 
--- ---- one step
-
--- a call failed and changed nothing except the count of failures
-pub record IsStill (old new : Talk) (before after : StreamData) : Type 0 where
-  pub talk : new ≡ old
-  pub bytes : Keeps before.bytes after.bytes
-  pub count : CountsFailure before.failures after.failures
-
--- a piece was read and added to the conversation
-pub record HearsPiece (old new : Talk) (had left : StreamData) : Type 0 where
-  pub piece : List ℕ
-  pub some : 0 < length piece
-  pub read : Consumes had.bytes left.bytes piece
-  pub hears : Hears old piece new
-  pub count : left.failures ≡ had.failures
-
--- a read reached the end of the input
-pub record HearsEnd (old new : Talk) (had left : StreamData) : Type 0 where
-  pub read : Consumes had.bytes left.bytes []
-  pub ended : IsAtEnd left.bytes
-  pub hears : new ≡ heard true old []
-  pub count : left.failures ≡ had.failures
+-- ---- one call
 
 -- the progress of a call that failed
 abbrev pub IsProgressAfter : ServeFault → Progress → Type 0
@@ -43,68 +22,6 @@ IsProgressAfter fault Done = ⊥
 IsProgressAfter fault Works = ⊥
 IsProgressAfter fault (Failed why) = why ≡ fault
 IsProgressAfter fault progress = Unit {0}
-
--- the effect of one read, and the progress after it
-abbrev pub Listens : Talk → Talk → StreamData → StreamData → Progress → Type 0
-Listens old new had left progress =
-    (HearsPiece old new had left × (progress ≡ Paused))
-    ⊎ ((HearsEnd old new had left × (progress ≡ Paused))
-    ⊎ (IsStill old new had left × IsProgressAfter ReadFailed progress))
-
--- the effect of asking for the reply to this line, and the progress after it, which says whether
--- the reply is there. Nothing of it is sent yet
-abbrev pub RepliesToLine : {A : Type 0} → (A → A → List ℕ → List ℕ → Type 0) → A → A → List ℕ
-    → Talk → Progress → Type 0
-RepliesToLine gives before after line new progress =
-    ((reply : List ℕ) × (steps : ℕ) × gives before after line reply
-    × (new ≡ Responds line reply steps 0)
-    × (((progress ≡ Paused) × (steps ≡ 0)) ⊎ ((progress ≡ Works) × (0 < steps))))
-    ⊎ ((new ≡ Asks line) × (progress ≡ Failed NoMemory))
-
--- the effect of asking for the reply, by its progress, if a line is asked: the conversation before
--- and after, and the answers before and after
-abbrev pub IsAsked : {A : Type 0} → (A → A → List ℕ → List ℕ → Type 0) → Talk → Talk
-    → A → A → Progress → Type 0
-IsAsked gives old new before after progress =
-    (line : List ℕ) → old ≡ Asks line → RepliesToLine gives before after line new progress
-
--- the next `count` bytes of the reply were written, and nothing else
-pub record SaysSome (old new : Talk) (before after : StreamData) : Type 0 where
-  pub count : ℕ
-  pub ready : steps_of old ≡ 0
-  pub some : 0 < count
-  pub fits : count ≤ length (unsent_of old)
-  pub written : Appends before.bytes after.bytes (take count (unsent_of old))
-  pub is : new ≡ said old count
-  pub counted : after.failures ≡ before.failures
-
--- the effect of one write, or of one step of the search for the reply, and the progress after it:
--- the whole reply was already written; some of it was written; a step, which writes nothing, left
--- fewer steps, or as many if it ran out of memory; or the write failed
-abbrev pub Says : Talk → Talk → StreamData → StreamData → Progress → Type 0
-Says old new before after progress =
-    ((new ≡ old) × (steps_of old ≡ 0) × (unsent_of old ≡ []) × (after ≡ before) × (progress ≡ Done))
-    ⊎ ((SaysSome old new before after
-    × ((progress ≡ Paused) ⊎ ((progress ≡ Done) × (unsent_of new ≡ []))))
-    ⊎ (((0 < steps_of old) × OnlySearches old new × (after ≡ before)
-    × (((progress ≡ Works) × (steps_of new < steps_of old))
-    ⊎ ((progress ≡ Failed NoMemory) × (steps_of new ≡ steps_of old))))
-    ⊎ (IsStill old new before after × IsProgressAfter WriteFailed progress)))
-
--- one step, by the state of the conversation: what it does with the streams and the answers; the
--- conversation, the answers, the reader and the writer before and after, and the progress
-abbrev pub Steps : {A : Type 0} → (A → A → List ℕ → List ℕ → Type 0) → Talk → Talk → A → A
-    → StreamData → StreamData → StreamData → StreamData → Progress → Type 0
-Steps gives (Gathers bytes) new a b had left before after progress =
-    Listens (Gathers bytes) new had left progress × (b ≡ a) × (after ≡ before)
-Steps gives (Asks line) new a b had left before after progress =
-    RepliesToLine gives a b line new progress × (left ≡ had) × (after ≡ before)
-Steps gives IsTooLong new a b had left before after progress =
-    (progress ≡ Failed LineTooLong) × (new ≡ IsTooLong) × (b ≡ a) × (left ≡ had) × (after ≡ before)
-Steps gives LacksMemory new a b had left before after progress =
-    (progress ≡ Failed NoMemory) × (new ≡ LacksMemory) × (b ≡ a) × (left ≡ had) × (after ≡ before)
-Steps gives (Responds line reply steps sent) new a b had left before after progress =
-    Says (Responds line reply steps sent) new before after progress × (b ≡ a) × (left ≡ had)
 
 -- the progress after a call that failed in this way
 abbrev pub progress_after : ErrorKind → ServeFault → Progress
@@ -136,66 +53,153 @@ Records old new (Ok count) progress =
 Records old new (Err error) progress =
     (new ≡ old) × (progress ≡ progress_after (error_kind error) WriteFailed)
 
--- the state of a conversation when it stops, by its progress: the conversation, the number of
--- failed calls of the reader before and after, and that of the writer before and after. It never
--- stops at a pause. It takes too many turns only if the failed calls of both, the bytes that were
--- sent, and MAX_LINE + 4 steps before the reply make at least 2^64 - 1
-abbrev pub Stops : Talk → ℕ → ℕ → ℕ → ℕ → Progress → Type 0
-Stops talk had left before after Done =
-    IsAnswering talk × (unsent_of talk ≡ [])
+-- ---- the answers, before and after
+
+module _ {A : Type 0} (gives : A → A → List ℕ → List ℕ → Type 0) where
+  -- the effect of asking for the reply to this line, and the progress after it, which says whether
+  -- the reply is there. Nothing of it is sent yet
+  abbrev pub RepliesToLine : List ℕ → Talk → A → A → Progress → Type 0
+  RepliesToLine line new before after progress =
+      ((reply : List ℕ) × (steps : ℕ) × gives before after line reply
+      × (new ≡ Responds line reply steps 0)
+      × (((progress ≡ Paused) × (steps ≡ 0)) ⊎ ((progress ≡ Works) × (0 < steps))))
+      ⊎ ((new ≡ Asks line) × (progress ≡ Failed NoMemory))
+
+  -- the effect of asking for the reply, by its progress, if a line is asked
+  abbrev pub IsAsked : Talk → Talk → A → A → Progress → Type 0
+  IsAsked old new before after progress =
+      (line : List ℕ) → old ≡ Asks line → RepliesToLine line new before after progress
+
+  -- one step asks for the reply if it isn't asked for yet, and fails if there is no line to ask
+  abbrev pub AsksOnce : Talk → Talk → A → A → Progress → Type 0
+  AsksOnce (Asks line) new before after progress = RepliesToLine line new before after progress
+  AsksOnce IsTooLong new before after progress =
+      (progress ≡ Failed LineTooLong) × (new ≡ IsTooLong) × (after ≡ before)
+  AsksOnce LacksMemory new before after progress =
+      (progress ≡ Failed NoMemory) × (new ≡ LacksMemory) × (after ≡ before)
+  AsksOnce talk new before after progress = after ≡ before
+
+  -- the line was answered with this reply between two states of the answers
+  pub record IsGiven (leads_to : A → A → Type 0) (start now : A) (line reply : List ℕ) : Type 0 where
+    pub before : A
+    pub after : A
+    pub begins : Leads leads_to start before
+    pub given : gives before after line reply
+    pub ends : Leads leads_to after now
+
+  -- the reply that some steps leave is the one that was there, or was given meanwhile
+  abbrev pub GivesOn : (A → A → Type 0) → Talk → Talk → A → A → Type 0
+  GivesOn leads_to old new before after =
+      (line reply : List ℕ) → HasReply new line reply
+      → HasReply old line reply ⊎ IsGiven leads_to before after line reply
+
+-- ---- the streams, before and after
+
+-- the bytes that a reader has left, or that a writer has taken, are given as a function of it
+module _ {D : Type 0} (known : D → Option (List ℕ)) where
+  -- a call failed and changed nothing except the count of failures
+  pub record IsStill (old new : Talk) (before after : WatchedData D) : Type 0 where
+    pub talk : new ≡ old
+    pub bytes : Keeps (known before.device) (known after.device)
+    pub count : CountsFailure before.failures after.failures
+
+  -- a piece was read and added to the conversation
+  pub record HearsPiece (old new : Talk) (had left : WatchedData D) : Type 0 where
+    pub piece : List ℕ
+    pub some : 0 < length piece
+    pub read : HasRead known had left piece
+    pub hears : Hears old piece new
+    pub count : left.failures ≡ had.failures
+
+  -- a read reached the end of the input
+  pub record HearsEnd (old new : Talk) (had left : WatchedData D) : Type 0 where
+    pub read : HasRead known had left []
+    pub ended : IsAtEnd (known left.device)
+    pub hears : new ≡ heard true old []
+    pub count : left.failures ≡ had.failures
+
+  -- the effect of one read, and the progress after it
+  abbrev pub Listens : Talk → Talk → WatchedData D → WatchedData D → Progress → Type 0
+  Listens old new had left progress =
+      (HearsPiece old new had left × (progress ≡ Paused))
+      ⊎ ((HearsEnd old new had left × (progress ≡ Paused))
+      ⊎ (IsStill old new had left × IsProgressAfter ReadFailed progress))
+
+  -- one step reads once while the line isn't at its end, and else nothing
+  abbrev pub HearsOnce : Talk → Talk → WatchedData D → WatchedData D → Progress → Type 0
+  HearsOnce (Gathers bytes) new had left progress = Listens (Gathers bytes) new had left progress
+  HearsOnce talk new had left progress = left ≡ had
+
+  -- the state of a conversation agrees with the bytes that the reader had at first and has left
+  pub record HasTaken (had : Option (List ℕ)) (reader : WatchedData D) (talk : Talk) : Type 0 where
+    pub taken : List ℕ
+    pub ended : Bool
+    pub consumed : Consumes had (known reader.device) taken
+    pub all_taken : ended ≡ true → IfSome had (λ all. all ≡ taken)
+    pub heard : HasHeard ended taken talk
+
+  -- some steps keep this agreement, however the conversation reached its state
+  abbrev pub HearsOn : Talk → Talk → WatchedData D → WatchedData D → Type 0
+  HearsOn old new before after =
+      (had : Option (List ℕ)) → HasTaken had before old → HasTaken had after new
+
+  -- the next `count` bytes of the reply were written, and nothing else
+  pub record SaysSome (old new : Talk) (before after : WatchedData D) : Type 0 where
+    pub count : ℕ
+    pub ready : steps_of old ≡ 0
+    pub some : 0 < count
+    pub fits : count ≤ length (unsent_of old)
+    pub written : HasSent known before after (take count (unsent_of old))
+    pub is : new ≡ said old count
+    pub counted : after.failures ≡ before.failures
+
+  -- the effect of one write, or of one step of the search for the reply, and the progress after it:
+  -- the whole reply was already written; some of it was written; a step, which writes nothing, left
+  -- fewer steps, or as many if it ran out of memory; or the write failed
+  abbrev pub Says : Talk → Talk → WatchedData D → WatchedData D → Progress → Type 0
+  Says old new before after progress =
+      ((new ≡ old) × (steps_of old ≡ 0) × (unsent_of old ≡ []) × (after ≡ before)
+      × (progress ≡ Done))
+      ⊎ ((SaysSome old new before after
+      × ((progress ≡ Paused) ⊎ ((progress ≡ Done) × (unsent_of new ≡ []))))
+      ⊎ (((0 < steps_of old) × OnlySearches old new × (after ≡ before)
+      × (((progress ≡ Works) × (steps_of new < steps_of old))
+      ⊎ ((progress ≡ Failed NoMemory) × (steps_of new ≡ steps_of old))))
+      ⊎ (IsStill old new before after × IsProgressAfter WriteFailed progress)))
+
+  -- one step writes once, or searches once, while it answers, and else writes nothing
+  abbrev pub SaysOnce : Talk → Talk → WatchedData D → WatchedData D → Progress → Type 0
+  SaysOnce (Responds line reply steps sent) new before after progress =
+      Says (Responds line reply steps sent) new before after progress
+  SaysOnce talk new before after progress = after ≡ before
+
+  -- some steps wrote exactly the bytes by which the sent part of the reply is longer
+  abbrev pub SaysOn : Talk → Talk → WatchedData D → WatchedData D → Type 0
+  SaysOn old new before after =
+      (bytes : List ℕ) × HasSent known before after bytes × (said_of new ≡ said_of old ++ bytes)
+
+-- ---- the conversation
+
+-- the state of a conversation when it stops, by its progress: the conversation, and the reader and
+-- the writer before and after. It never stops at a pause. It takes too many turns only if the failed
+-- calls of both, the bytes that were sent, and MAX_LINE + 4 steps before the reply make at least
+-- 2^64 - 1
+abbrev pub Stops : {R W : Type 0} → Talk → WatchedData R → WatchedData R → WatchedData W
+    → WatchedData W → Progress → Type 0
+Stops talk had left before after Done = IsAnswering talk × (unsent_of talk ≡ [])
 Stops talk had left before after Paused = ⊥
 Stops talk had left before after Works = IsAnswering talk
-Stops talk had left before after Waits = HasFailed had left ⊎ HasFailed before after
+Stops talk had left before after Waits =
+    HasFailed had.failures left.failures ⊎ HasFailed before.failures after.failures
 Stops talk had left before after (Failed LineTooLong) = talk ≡ IsTooLong
-Stops talk had left before after (Failed ReadFailed) = HasFailed had left
+Stops talk had left before after (Failed ReadFailed) = HasFailed had.failures left.failures
 Stops talk had left before after (Failed TooManyTurns) =
-    2 ^ 64 - 1 ≤ left + after + sent_of talk + (MAX_LINE + 4)
-Stops talk had left before after (Failed WriteFailed) = HasFailed before after
+    2 ^ 64 - 1 ≤ left.failures + after.failures + sent_of talk + (MAX_LINE + 4)
+Stops talk had left before after (Failed WriteFailed) = HasFailed before.failures after.failures
 Stops talk had left before after (Failed NoMemory) = Unit {0}
 
--- ---- any number of steps
-
--- the line was answered with this reply between two states of the answers
-pub record IsGiven {A : Type 0} (leads_to : A → A → Type 0)
-    (gives : A → A → List ℕ → List ℕ → Type 0) (start now : A) (line reply : List ℕ) : Type 0 where
-  pub before : A
-  pub after : A
-  pub begins : leads_to start before
-  pub given : gives before after line reply
-  pub ends : leads_to after now
-
--- the state of a conversation agrees with all bytes that came in and all bytes that were sent: they
--- are a prefix of the reply to the line that these bytes ask
-abbrev pub Stands : (List ℕ → List ℕ → Type 0) → Bool → List ℕ → List ℕ → Talk → Type 0
-Stands given ended taken sent LacksMemory = sent ≡ []
-Stands given ended taken sent (Responds line reply steps count) =
-    (talk_of ended taken ≡ Asks line) × given line reply × (sent ≡ take count reply)
-Stands given ended taken sent talk = (talk_of ended taken ≡ talk) × (sent ≡ [])
-
--- the state of a conversation agrees with the bytes that the reader had at first and has left, and
--- with the bytes that the writer had at first and has now
-pub record Talks (given : List ℕ → List ℕ → Type 0) (had left old new : Option (List ℕ))
-    (talk : Talk) : Type 0 where
-  pub taken : List ℕ
-  pub sent : List ℕ
-  pub ended : Bool
-  pub consumed : Consumes had left taken
-  pub appended : Appends old new sent
-  pub all_taken : ended ≡ true → IfSome had (λ all. all ≡ taken)
-  pub stands : Stands given ended taken sent talk
-
--- a change of the conversation alone keeps this agreement, whichever replies answer a line
+-- a change of the conversation alone keeps what was heard, said and given
 pub record Upholds (old new : Talk) : Type 0 where
-  pub goes : (answers : List ℕ → List ℕ → Bool) (ended : Bool) (taken sent : List ℕ)
-      → Stands (λ line reply. answers line reply ≡ true) ended taken sent old
-      → Stands (λ line reply. answers line reply ≡ true) ended taken sent new
-
--- some steps keep this agreement, however the conversation reached its state and whatever others
--- were answered since: the conversation, the answers, the reader and the writer, before and after
-pub record Advances {A : Type 0} (leads_to : A → A → Type 0)
-    (gives : A → A → List ℕ → List ℕ → Type 0)
-    (talk next : Talk) (before after : A) (left later new newer : Option (List ℕ)) : Type 0 where
-  pub goes : (start seen : A) (had old : Option (List ℕ)) → leads_to start seen
-      → leads_to seen before
-      → Talks (IsGiven leads_to gives start seen) had left old new talk
-      → Talks (IsGiven leads_to gives start after) had later old newer next
+  pub heard : (ended : Bool) (taken : List ℕ) → HasHeard ended taken old → HasHeard ended taken new
+  pub said : said_of new ≡ said_of old
+  pub given : (line reply : List ℕ) → HasReply new line reply → HasReply old line reply

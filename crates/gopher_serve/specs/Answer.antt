@@ -1,5 +1,5 @@
 -- What a line is answered with, by its bytes and the steps that are left until they are there.
-use Rattle.std.specs.Prelude.{◌≡◌, ℕ, suc, ◌<◌, ◌⊎◌, List, Option, None, Some, codes, ◌++◌, flat_map}
+use Rattle.std.specs.Prelude.{◌≡◌, ℕ, suc, ◌<◌, ◌⊎◌, List, Option, None, Some, Result, IfOk, codes, ◌++◌, flat_map}
 use Rattle.gopher_serve.specs.declared.answer.Answer.{Answer}
 use Rattle.gopher_item.specs.MenuLine.{MenuLineData, menu_line_bytes}
 use Rattle.gopher_index.specs.declared.hit.Hit.{Hit}
@@ -25,6 +25,10 @@ abbrev pub answer_bytes : Answer → List ℕ
 answer_bytes (answer.Kept bytes) = bytes.now
 answer_bytes (answer.Made bytes) = bytes.items
 answer_bytes (answer.Searching search) = hits_bytes search.hits
+
+-- if there is an answer, its bytes are such
+abbrev pub IfAnswered : {E : Type 0} → Result Answer E → (List ℕ → Type 0) → Type 0
+IfAnswered result P = IfOk result (λ answer. P (answer_bytes answer))
 
 -- the bytes of an answer; `None` if its search isn't at its end
 abbrev pub ready_bytes : Answer → Option (List ℕ)

@@ -1,6 +1,6 @@
 -- A conversation with one client, over all bytes that came in: one line, and its reply (RFC 1436,
 -- section 2).
-use Rattle.std.specs.Prelude.{◌≡◌, ℕ, suc, ◌+◌, ◌==◌, Bool, false, ◌||◌, ◌⊎◌, List, [], ◌++◌, length, drop, nat_le, Option, None, Some, if◌then◌else◌}
+use Rattle.std.specs.Prelude.{◌≡◌, ℕ, suc, ◌+◌, ◌==◌, Bool, false, ◌||◌, ◌⊎◌, List, [], ◌++◌, length, take, drop, nat_le, Option, None, Some, if◌then◌else◌}
 use Rattle.std.specs.Io.BufRead.{first_line}
 use Rattle.gopher_bytes.specs.declared.line.TheConstants.{MAX_LINE}
 use Rattle.gopher_text.specs.Line.{has_feed}
@@ -58,6 +58,11 @@ abbrev pub unsent_of : Talk → List ℕ
 unsent_of (Responds line reply steps sent) = drop sent reply
 unsent_of talk = []
 
+-- the bytes of the reply that were sent
+abbrev pub said_of : Talk → List ℕ
+said_of (Responds line reply steps sent) = take sent reply
+said_of talk = []
+
 -- a bound of the steps of the search that are left until the reply is there; 0 once it is there
 abbrev pub steps_of : Talk → ℕ
 steps_of (Responds line reply steps sent) = steps
@@ -87,6 +92,17 @@ abbrev pub put_back : Talk → Talk
 put_back (Responds line reply (suc steps) sent) =
     if sent == 0 then Asks line else Responds line reply (suc steps) sent
 put_back talk = talk
+
+-- the line is answered with this reply
+abbrev pub HasReply : Talk → List ℕ → List ℕ → Type 0
+HasReply (Responds asked given steps sent) line reply = (line ≡ asked) × (reply ≡ given)
+HasReply talk line reply = ⊥
+
+-- the state of a conversation agrees with all bytes that came in
+abbrev pub HasHeard : Bool → List ℕ → Talk → Type 0
+HasHeard ended taken LacksMemory = Unit {0}
+HasHeard ended taken (Responds line reply steps sent) = talk_of ended taken ≡ Asks line
+HasHeard ended taken talk = talk_of ended taken ≡ talk
 
 -- the line is answered
 abbrev pub IsAnswering : Talk → Type 0

@@ -1,9 +1,8 @@
 //! One step of a conversation (`advance`), with at most one call of a stream.
 
 ghost use Rattle.std.specs.Prelude.{◌≡◌, ◌<◌, ◌≤◌, ◌+◌, ◌^◌, length, IfOk, OnErr};
-ghost use Rattle.gopher_serve.specs.Advance.{HearsOutcome, IsProgressAfter, Listens, Records, IsAsked, Says, Steps, progress_after};
+ghost use Rattle.gopher_serve.specs.Advance.{AsksOnce, HearsOnce, HearsOutcome, IsAsked, IsProgressAfter, Listens, Records, Says, SaysOnce, progress_after};
 ghost use Rattle.gopher_serve.specs.Leads.{Leads};
-ghost use Rattle.gopher_serve.specs.Serve.{stream_of};
 ghost use Rattle.gopher_serve.specs.Talk.{sent_of, unsent_of};
 ghost use Rattle.gopher_serve.specs.declared.fault.ServeFault.TheVariants.{ReadFailed, WriteFailed};
 
@@ -57,9 +56,9 @@ pub fn advance<'a, A: Answers<'a>, R: Read, W: Write>(
     buffer: &mut [u8],
 ) -> Progress
     requires { 0 < length buffer.old }
-    ensures step { Steps A.gives talk.old talk.new answers.old answers.new
-        (stream_of R.remaining reader.old) (stream_of R.remaining reader.new)
-        (stream_of W.contents writer.old) (stream_of W.contents writer.new) result }
+    ensures hears { HearsOnce R.remaining talk.old talk.new reader.old reader.new result }
+    ensures asks { AsksOnce A.gives talk.old talk.new answers.old answers.new result }
+    ensures says { SaysOnce W.contents talk.old talk.new writer.old writer.new result }
     ensures leads { Leads A.leads_to answers.old answers.new }
 {
     match &talk.phase {
@@ -73,16 +72,15 @@ pub fn advance<'a, A: Answers<'a>, R: Read, W: Write>(
 
 // Reads once.
 fn listen<R: Read>(
-    conversation: &mut Conversation<'_>,
+    talk: &mut Conversation<'_>,
     reader: &mut Watched<R>,
     buffer: &mut [u8],
 ) -> Progress
     requires { 0 < length buffer.old }
-    ensures { Listens conversation.old conversation.new (stream_of R.remaining reader.old)
-        (stream_of R.remaining reader.new) result }
+    ensures { Listens R.remaining talk.old talk.new reader.old reader.new result }
 {
     let outcome = reader.read(buffer);
-    take_in(conversation, buffer, outcome)
+    take_in(talk, buffer, outcome)
 }
 
 // Takes in the outcome of a read into `buffer`: its first bytes, the end of the input, or an error.
@@ -132,22 +130,17 @@ fn ask<'a, A: Answers<'a>>(
 }
 
 // Writes once, if the reply is there.
-fn say<W: Write>(
-    alloc: Global,
-    conversation: &mut Conversation<'_>,
-    writer: &mut Watched<W>,
-) -> Progress
-    ensures { Says conversation.old conversation.new (stream_of W.contents writer.old)
-        (stream_of W.contents writer.new) result }
+fn say<W: Write>(alloc: Global, talk: &mut Conversation<'_>, writer: &mut Watched<W>) -> Progress
+    ensures { Says W.contents talk.old talk.new writer.old writer.new result }
 {
-    let Some(unsent) = conversation.unsent() else {
-        return conversation.search(alloc);
+    let Some(unsent) = talk.unsent() else {
+        return talk.search(alloc);
     };
     if unsent.is_empty() {
         return Progress::Done;
     }
     let outcome = writer.write(unsent);
-    record(conversation, outcome)
+    record(talk, outcome)
 }
 
 // Records the outcome of a write of the rest of the reply.

@@ -2,7 +2,7 @@
 
 ghost use Rattle.std.specs.Prelude.{◌≡◌, IfOk, OnErr, OnOk};
 ghost use Rattle.std.specs.Option.{option_map};
-ghost use Rattle.gopher_serve.specs.Answer.{Nears, answer_bytes, ready_bytes, steps_to_reply, hits_bytes};
+ghost use Rattle.gopher_serve.specs.Answer.{IfAnswered, Nears, answer_bytes, ready_bytes, steps_to_reply, hits_bytes};
 
 use crate::hits::hits_menu;
 use gopher_index::Search;
@@ -15,8 +15,8 @@ use std::alloc::Global;
 /// before, the state after, the line and the bytes of the reply. `leads_to` relates the state
 /// before and the state after, also if the call fails.
 pub trait Answers<'a> {
-    ghost use Rattle.std.specs.Prelude.{ℕ, List, IfOk};
-    ghost use Rattle.gopher_serve.specs.Answer.{answer_bytes};
+    ghost use Rattle.std.specs.Prelude.{ℕ, List};
+    ghost use Rattle.gopher_serve.specs.Answer.{IfAnswered};
 
     ghost gives: { Self → Self → List ℕ → List ℕ → Type 0 };
 
@@ -28,8 +28,7 @@ pub trait Answers<'a> {
     ///
     /// Out of memory (90).
     fn answer(&mut self, alloc: Global, line: &[u8]) -> Result<Answer<'a>, NoMemory>
-        ensures gives { IfOk result (λ answer. gives self.old self.new line.now
-            (answer_bytes answer)) }
+        ensures gives { IfAnswered result (gives self.old self.new line.now) }
         ensures leads { leads_to self.old self.new };
 }
 

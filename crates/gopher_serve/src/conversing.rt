@@ -1,7 +1,7 @@
 //! The steps of a conversation while its streams are ready (`converse`).
 
 ghost use Rattle.std.specs.Prelude.{◌≡◌, ◌<◌, length};
-ghost use Rattle.gopher_serve.specs.Advance.{Advances, Stops};
+ghost use Rattle.gopher_serve.specs.Advance.{GivesOn, HearsOn, SaysOn, Stops};
 ghost use Rattle.gopher_serve.specs.Leads.{Leads};
 ghost use Rattle.gopher_serve.specs.Talk.{IsAnswering, steps_of};
 ghost use Rattle.gopher_serve.specs.declared.advancing.Progress.TheVariants.{Works};
@@ -31,13 +31,12 @@ pub fn converse<'a, A: Answers<'a>, R: Read, W: Write>(
     buffer: &mut [u8],
 ) -> Progress
     requires { 0 < length buffer.old }
+    ensures hears { HearsOn R.remaining talk.old talk.new reader.old reader.new }
+    ensures gives { GivesOn A.gives A.leads_to talk.old talk.new answers.old answers.new }
+    ensures says { SaysOn W.contents talk.old talk.new writer.old writer.new }
     ensures leads { Leads A.leads_to answers.old answers.new }
-    ensures goes_on { Advances (Leads A.leads_to) A.gives talk.old talk.new answers.old answers.new
-        (R.remaining reader.old.device) (R.remaining reader.new.device)
-        (W.contents writer.old.device) (W.contents writer.new.device) }
     ensures nears { result ≡ Works → IsAnswering talk.old → steps_of talk.new < steps_of talk.old }
-    ensures stops { Stops talk.new reader.old.failures reader.new.failures writer.old.failures
-        writer.new.failures result }
+    ensures stops { Stops talk.new reader.old reader.new writer.old writer.new result }
 {
     for _step in 0..u64::MAX {
         let progress = advance(alloc, talk, answers, reader, writer, buffer);
