@@ -1,8 +1,9 @@
 -- The reply to a request line: a function of the tree's files, the server's address, the line, and
 -- the hits of its search.
-use Rattle.std.specs.Prelude.{◌≡◌, ℕ, ◌<◌, Bool, nat_eq, codes, List, [], ◌∷◌, length, Option, None, Some, MatchOption, if◌then◌else◌}
+use Rattle.std.specs.Prelude.{◌≡◌, ℕ, ◌<◌, Bool, nat_eq, codes, List, [], ◌∷◌, length, Option, None, Some, MatchOption, Result, IfOk, if◌then◌else◌}
 use Rattle.std.specs.Option.{option_map_or}
 use Rattle.std.specs.Cmp.Lexicographic.{pointwise}
+use Rattle.std.specs.Global.{Vec}
 use Rattle.gopher_item.specs.Place.{HomeData}
 use Rattle.gopher_item.specs.Request.{request_fault, request_of}
 use Rattle.gopher_text.specs.Watched.{HasFailed}
@@ -11,6 +12,7 @@ use Rattle.gopher_index.specs.declared.hit.Hit.{Hit}
 use Rattle.gopher_tree.specs.Files.{File}
 use Rattle.gopher_tree.specs.Reply.{error_bytes, tree_reply}
 use Rattle.gopher_serve.specs.Answer.{hits_bytes}
+use Rattle.gopher_serve.specs.Kept.{RepliesData}
 use Rattle.gopher_catalogue.specs.Legal.{IsLegal}
 use Rattle.gopher_crew.specs.Crew.{PassData, SeesOn, hits_of}
 use mathlib.Core.List.{IsPrefix}
@@ -90,24 +92,27 @@ pub record AnswersLine (files : List File) (home : HomeData) (old new : PassData
   pub searched : Searches old new (terms_of_line line) outcome
   pub reply_is : reply ≡ reply_of files home line outcome
 
--- a tree's files, the server's address, and the records that its pass has seen and was told
-pub record SiteData : Type 0 where
-  pub files : List File
-  pub home : HomeData
-  pub pass : PassData
+-- if bytes are returned, they are such
+abbrev pub IfBytes : {E : Type 0} → Result (Vec ℕ) E → (List ℕ → Type 0) → Type 0
+IfBytes result P = IfOk result (λ bytes. P bytes.items)
 
-abbrev pub site_with : List File → HomeData → PassData → SiteData
-site_with files home pass = record { files = files; home = home; pass = pass }
+-- the reply to a line, from replies of a tree
+abbrev pub AnswersFrom : RepliesData → PassData → PassData → List ℕ → List ℕ → Type 0
+AnswersFrom replies old new line reply = AnswersLine replies.files replies.home old new line reply
+
+-- the replies of a tree, and the records that a pass has seen and was told
+pub record SiteData : Type 0 where
+  pub replies : RepliesData
+  pub pass : PassData
 
 -- the site is the same, except that its pass may have seen a longer record
 pub record LeadsOn (old new : SiteData) : Type 0 where
-  pub files : new.files ≡ old.files
-  pub home : new.home ≡ old.home
+  pub replies : new.replies ≡ old.replies
   pub pass : SeesOn old.pass new.pass
 
 -- the reply that a site gives to a line
 abbrev pub GivesReply : SiteData → SiteData → List ℕ → List ℕ → Type 0
-GivesReply old new line reply = AnswersLine old.files old.home old.pass new.pass line reply
+GivesReply old new line reply = AnswersFrom old.replies old.pass new.pass line reply
 
 -- a search after any number of answers finds its hits in a record that begins with everything that
 -- the site's pass saw and was told of before them

@@ -5,7 +5,6 @@
 //! goes on in steps; its bytes are decided when it begins. No socket appears here.
 
 ghost use Rattle.std.specs.Prelude.{◌≡◌};
-ghost use Rattle.gopher_crew.specs.Answer.{site_with};
 
 mod answering;
 mod fetching;
@@ -30,17 +29,17 @@ pub struct Site<'a, C: Crew> {
 }
 
 impl<'a, C: Crew> Model for Site<'a, C> {
-    ghost use Rattle.gopher_crew.specs.Answer.{SiteData, site_with};
+    ghost use Rattle.gopher_crew.specs.Answer.{SiteData};
 
     ghost Value = { SiteData };
 
-    ghost view = { λ s. site_with s.replies.now.files s.replies.now.home s.pass };
+    ghost view = { λ s. record { replies = s.replies.now; pass = s.pass } };
 }
 
 impl<'a, C: Crew> Site<'a, C> {
     /// Makes a site of replies, with the pass for its searches.
     pub fn new(replies: &'a Replies, pass: Pass<C>) -> Site<'a, C>
-        ensures { result ≡ site_with replies.now.files replies.now.home pass }
+        ensures { result ≡ record { replies = replies.now; pass = pass } }
     {
         Site { replies, pass }
     }

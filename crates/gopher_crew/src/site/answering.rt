@@ -1,9 +1,9 @@
 //! The reply to a request line, made anew (`answer`) or from kept replies (`answer_kept`).
 
 ghost use Rattle.std.specs.Prelude.{◌≡◌, IfOk, OnErr};
-ghost use Rattle.gopher_serve.specs.Answer.{answer_bytes};
+ghost use Rattle.gopher_serve.specs.Answer.{IfAnswered};
 ghost use Rattle.gopher_crew.specs.Crew.{SeesOn};
-ghost use Rattle.gopher_crew.specs.Answer.{AnswersLine, bad_request_bytes, is_search};
+ghost use Rattle.gopher_crew.specs.Answer.{AnswersFrom, AnswersLine, IfBytes, bad_request_bytes, is_search};
 
 use crate::crew::Crew;
 use crate::pass::Pass;
@@ -36,8 +36,7 @@ pub fn answer<C: Crew>(
     pass: &mut Pass<C>,
     line: &[u8],
 ) -> Result<Vec<u8>, NoMemory>
-    ensures answered { IfOk result (λ reply. AnswersLine tree.now home.now pass.old pass.new
-        line.now reply.items) }
+    ensures reply { IfBytes result (AnswersLine tree.now home.now pass.old pass.new line.now) }
     ensures refused { OnErr result (SeesOn pass.old pass.new) }
 {
     match read_request(alloc, line) {
@@ -62,8 +61,7 @@ pub fn answer_kept<'a, C: Crew>(
     pass: &mut Pass<C>,
     line: &[u8],
 ) -> Result<Answer<'a>, NoMemory>
-    ensures answered { IfOk result (λ answer. AnswersLine replies.now.files replies.now.home
-        pass.old pass.new line.now (answer_bytes answer)) }
+    ensures reply { IfAnswered result (AnswersFrom replies.now pass.old pass.new line.now) }
     ensures refused { OnErr result (SeesOn pass.old pass.new) }
 {
     match read_request(alloc, line) {

@@ -1,7 +1,7 @@
 //! Fetching the reply of a place over a stream (`fetch_over`).
 
-ghost use Rattle.std.specs.Prelude.{◌≡◌, ◌≤◌, ◌++◌, ◌∷◌, [], IfErr, IfOk};
-ghost use Rattle.gopher_crew.specs.Fetch.{FailsToFetch, Fetches, request_bytes, why_of};
+ghost use Rattle.std.specs.Prelude.{◌≡◌, ◌≤◌, ◌++◌, ◌∷◌, [], IfOk};
+ghost use Rattle.gopher_crew.specs.Fetch.{Fetches, request_bytes, why_of};
 
 use gopher_catalogue::Why;
 use gopher_item::{NoMemory, Place};
@@ -26,10 +26,7 @@ pub fn fetch_over<S: Read + Write>(
     limit: usize,
 ) -> Result<Vec<u8>, Why>
     requires { limit ≤ MAX_REPLY }
-    ensures fetched { IfOk result (λ bytes. Fetches S.contents S.remaining limit
-        (request_bytes place.now) stream.old stream.new bytes.items) }
-    ensures unfetched { IfErr result (FailsToFetch S.contents S.remaining limit
-        (request_bytes place.now) stream.old stream.new) }
+    ensures { Fetches S.contents S.remaining limit place.now stream.old stream.new result }
 {
     let Ok(request) = request_of(alloc, place) else {
         return Err(Why::NoMemory);

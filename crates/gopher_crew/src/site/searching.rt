@@ -1,7 +1,7 @@
 //! The reply to a line that searches.
 
 ghost use Rattle.std.specs.Prelude.{◌≡◌, ◌<◌, IfOk, OnErr, length};
-ghost use Rattle.gopher_serve.specs.Answer.{answer_bytes};
+ghost use Rattle.gopher_serve.specs.Answer.{IfAnswered};
 ghost use Rattle.gopher_crew.specs.Crew.{SeesOn};
 ghost use Rattle.gopher_crew.specs.Answer.{AnswersTerms, IsQueryFor, asked};
 
@@ -41,8 +41,7 @@ pub fn begin_search<'a, C: Crew>(
     pass: &mut Pass<C>,
     search: &Option<ByteString>,
 ) -> Result<Answer<'a>, NoMemory>
-    ensures answered { IfOk result (λ answer. AnswersTerms home.now pass.old pass.new
-        (asked search.now) (answer_bytes answer)) }
+    ensures reply { IfAnswered result (AnswersTerms home.now pass.old pass.new (asked search.now)) }
     ensures refused { OnErr result (SeesOn pass.old pass.new) }
 {
     match query_of(alloc, search)? {
@@ -60,8 +59,7 @@ fn look_up<'a, C: Crew>(
     query: &Query,
 ) -> Result<Answer<'a>, NoMemory>
     requires { 0 < length query.now }
-    ensures answered { IfOk result (λ answer. AnswersTerms home.now pass.old pass.new query.now
-        (answer_bytes answer)) }
+    ensures reply { IfAnswered result (AnswersTerms home.now pass.old pass.new query.now) }
     ensures refused { OnErr result (SeesOn pass.old pass.new) }
 {
     match pass.begin(query) {

@@ -1,7 +1,8 @@
 //! One whole conversation of a tree, over streams that block (`serve_one`).
 
 ghost use Rattle.std.specs.Prelude.{◌≡◌, IfErr};
-ghost use Rattle.gopher_serve.specs.Serve.{IsUnheard, Serves, stream_of};
+ghost use Rattle.gopher_text.specs.Line.{IsNextLine};
+ghost use Rattle.gopher_serve.specs.Serve.{IsUnheard, ReadsRequest, SendsReply};
 ghost use Rattle.gopher_crew.specs.Answer.{AnswersLine};
 
 use crate::crew::Crew;
@@ -31,9 +32,9 @@ pub fn serve_one<C: Crew, R: Read, W: Write>(
     reader: &mut Watched<R>,
     writer: &mut Watched<W>,
 ) -> Result<(), ServeFault>
-    ensures served { Serves (AnswersLine tree.now home.now pass.old pass.new)
-        (stream_of R.remaining reader.old) (stream_of R.remaining reader.new)
-        (stream_of W.contents writer.old) (stream_of W.contents writer.new) result }
+    ensures read { ReadsRequest R.remaining reader.old reader.new result }
+    ensures sent { SendsReply (IsNextLine R.remaining reader.old)
+        (AnswersLine tree.now home.now pass.old pass.new) W.contents writer.old writer.new result }
     ensures unheard { IfErr result (λ fault. IsUnheard fault → pass.new ≡ pass.old) }
 {
     let line = read_line_from(alloc, reader)?;

@@ -4,8 +4,8 @@ use Rattle.gopher_crew.specs.Fetch.{request_bytes}
 use Rattle.gopher_crew.proofs.Fetches.{fetch_unread}
 use Rattle.gopher_crew.proofs.site.fetching.fetch_over.Goals as goal
 
-pub returns-in-Ok-read_reply-clause-fetched : goal.returns-in-Ok-read_reply-clause-fetched
-returns-in-Ok-read_reply-clause-fetched g c =
+pub returns-in-Ok-read_reply : goal.returns-in-Ok-read_reply
+returns-in-Ok-read_reply g c =
     let sent : Appends (g.S.Write.contents c.args.stream.now.device) (g.S.Write.contents c.send.new.writer.device) (request_bytes c.args.place.now) =
     subst (Appends _ _) (c.deref.ensures.value ∙ c.in-Ok.ensures) c.in-Ok-send.ensures.all in
     record {
@@ -15,8 +15,8 @@ returns-in-Ok-read_reply-clause-fetched g c =
       few = search rules;
     }
 
-pub returns-clause-unfetched : goal.returns-clause-unfetched
-returns-clause-unfetched g c =
+pub returns : goal.returns
+returns g c =
     let sent : Appends (g.S.Write.contents c.args.stream.now.device) (g.S.Write.contents c.send.new.writer.device) (request_bytes c.args.place.now) =
     subst (Appends _ _) (c.deref.ensures.value ∙ c.in-Ok.ensures) c.in-Ok-send.ensures.all in
     fetch_unread g.S.Write.contents g.S.Read.remaining c.args.limit (request_bytes c.args.place.now) c.args.stream.now c.send.new.writer c.read_reply.new.reader
