@@ -123,7 +123,7 @@ long_line_begun (Some all) (Some left) bytes read unfed long =
 
 -- reading stopped before the line's end
 pub line_refused : {R : Type 0} (remaining : R → Option (List ℕ)) (old new : WatchedData R) (bytes : List ℕ) (fault : LineFault)
-    → HasRead remaining old new bytes → StopsInLine {T = Unit {0}} remaining old new bytes (Err fault) → FailsToReadLine remaining old new fault
+    → HasRead remaining old new bytes → StopsInLine remaining {T = Unit {0}} old new bytes (Err fault) → FailsToReadLine remaining old new fault
 line_refused remaining old new bytes LineTooLong read stop = long_line_begun (remaining old.device) (remaining new.device) bytes read stop.0 stop.1
 line_refused remaining old new bytes ReadFailed read stop = (bytes, read, stop)
 line_refused remaining old new bytes TooManyTurns read stop = (bytes, read, stop.0, stop.1)

@@ -39,43 +39,41 @@ RefusesLine old new before after TooManyTurns =
 RefusesLine old new before after NoMemory =
     IfSome old (λ bytes. length (first_line bytes) ≤ MAX_LINE) × DropsThrough old new 10
 
--- why reading stopped after these bytes of a line: the reader before and after
-abbrev pub StopsInLine : {R T : Type 0} → (R → Option (List ℕ)) → WatchedData R → WatchedData R
-    → List ℕ → Result T LineFault → Type 0
-StopsInLine remaining old new bytes (Ok value) = IsWholeLine (remaining new.device) bytes
-StopsInLine remaining old new bytes (Err LineTooLong) =
-    (has_feed bytes ≡ false) × (length bytes ≡ 1026)
-StopsInLine remaining old new bytes (Err ReadFailed) = IsPartOfLine old.failures new.failures bytes
-StopsInLine remaining old new bytes (Err TooManyTurns) =
-    IsPartOfLine old.failures new.failures bytes
-    × SpendsTurns 4096 old.failures new.failures (length bytes)
-StopsInLine remaining old new bytes (Err NoMemory) = ⊥
-
--- the line is the reader's next one, without its end
-abbrev pub IsNextLine : {R : Type 0} → (R → Option (List ℕ)) → WatchedData R → List ℕ → Type 0
-IsNextLine remaining reader line =
-    IfSome (remaining reader.device) (λ bytes. line ≡ first_line bytes)
-
--- exactly the next line and its end were read: the reader before and after
-abbrev pub ReadsLine : {R : Type 0} → (R → Option (List ℕ)) → WatchedData R → WatchedData R → Type 0
-ReadsLine remaining old new = DropsThrough (remaining old.device) (remaining new.device) 10
-
--- the bytes that a failed call read, by its fault: the reader before and after
-abbrev pub FailsToReadLine : {R : Type 0} → (R → Option (List ℕ)) → WatchedData R → WatchedData R
-    → LineFault → Type 0
-FailsToReadLine remaining old new fault =
-    RefusesLine (remaining old.device) (remaining new.device) old.failures new.failures fault
-
 -- the number of bytes taken and the failures counted in between are at most this many together: the
 -- reader before and after
 abbrev pub TakesAndFailsAtMost : {R : Type 0} → WatchedData R → WatchedData R → ℕ → ℕ → Type 0
 TakesAndFailsAtMost old new taken limit =
     (old.failures ≤ new.failures) × (new.failures + taken ≤ old.failures + limit)
 
--- the bytes read and the failures counted in between are at most this many together: the reader
--- before and after
-abbrev pub ReadsAndFailsAtMost : {R : Type 0} → (R → Option (List ℕ)) → WatchedData R
-    → WatchedData R → ℕ → Type 0
-ReadsAndFailsAtMost remaining old new limit =
-    (bytes : List ℕ) × HasRead remaining old new bytes
-    × TakesAndFailsAtMost old new (length bytes) limit
+-- the bytes that a reader has left are given as a function of it; then comes the reader before and
+-- after
+module _ {R : Type 0} (remaining : R → Option (List ℕ)) where
+  -- why reading stopped after these bytes of a line
+  abbrev pub StopsInLine : {T : Type 0} → WatchedData R → WatchedData R → List ℕ
+      → Result T LineFault → Type 0
+  StopsInLine old new bytes (Ok value) = IsWholeLine (remaining new.device) bytes
+  StopsInLine old new bytes (Err LineTooLong) = (has_feed bytes ≡ false) × (length bytes ≡ 1026)
+  StopsInLine old new bytes (Err ReadFailed) = IsPartOfLine old.failures new.failures bytes
+  StopsInLine old new bytes (Err TooManyTurns) =
+      IsPartOfLine old.failures new.failures bytes
+      × SpendsTurns 4096 old.failures new.failures (length bytes)
+  StopsInLine old new bytes (Err NoMemory) = ⊥
+
+  -- the line is the reader's next one, without its end
+  abbrev pub IsNextLine : WatchedData R → List ℕ → Type 0
+  IsNextLine reader line = IfSome (remaining reader.device) (λ bytes. line ≡ first_line bytes)
+
+  -- exactly the next line and its end were read
+  abbrev pub ReadsLine : WatchedData R → WatchedData R → Type 0
+  ReadsLine old new = DropsThrough (remaining old.device) (remaining new.device) 10
+
+  -- the bytes that a failed call read, by its fault
+  abbrev pub FailsToReadLine : WatchedData R → WatchedData R → LineFault → Type 0
+  FailsToReadLine old new fault =
+      RefusesLine (remaining old.device) (remaining new.device) old.failures new.failures fault
+
+  -- the bytes read and the failures counted in between are at most this many together
+  abbrev pub ReadsAndFailsAtMost : WatchedData R → WatchedData R → ℕ → Type 0
+  ReadsAndFailsAtMost old new limit =
+      (bytes : List ℕ) × HasRead remaining old new bytes
+      × TakesAndFailsAtMost old new (length bytes) limit

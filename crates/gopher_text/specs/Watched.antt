@@ -1,23 +1,35 @@
 -- Readers and writers that count their failed calls.
-use Rattle.std.specs.Prelude.{◌≡◌, ℕ, ◌+◌, ◌-◌, ◌^◌, ◌<◌, ◌≤◌, ◌⊎◌, List, length, Option, Result, Ok, Err}
-use Rattle.std.specs.Io.KnownBytes.{Appends, Consumes}
+use Rattle.std.specs.Prelude.{◌≡◌, ℕ, ◌+◌, ◌-◌, ◌^◌, ◌<◌, ◌≤◌, ◌⊎◌, List, length, take, Option, Result, Ok, Err}
+use Rattle.std.specs.Io.KnownBytes.{Appends, Consumes, ReadConsumes, WriteAppends}
+use Rattle.gopher_text.specs.declared.fault.SendFault.{SendFault}
 
 -- a reader or a writer, and the number of its failed calls
 pub record WatchedData (D : Type 0) : Type 0 where
   pub device : D
   pub failures : ℕ
 
--- exactly these bytes were read: the bytes that a device has left to read are given as a function
--- of it, and the reader before and after
-abbrev pub HasRead : {R : Type 0} → (R → Option (List ℕ)) → WatchedData R → WatchedData R → List ℕ
-    → Type 0
-HasRead remaining old new bytes = Consumes (remaining old.device) (remaining new.device) bytes
+-- the bytes that a device has left to read, or has taken, are given as a function of it; then come
+-- the reader or writer before and after
+module _ {D : Type 0} (known : D → Option (List ℕ)) where
+  -- exactly these bytes were read
+  abbrev pub HasRead : WatchedData D → WatchedData D → List ℕ → Type 0
+  HasRead old new bytes = Consumes (known old.device) (known new.device) bytes
 
--- exactly these bytes were written: the bytes that a device has taken are given as a function of
--- it, and the writer before and after
-abbrev pub HasSent : {W : Type 0} → (W → Option (List ℕ)) → WatchedData W → WatchedData W → List ℕ
-    → Type 0
-HasSent contents old new bytes = Appends (contents old.device) (contents new.device) bytes
+  -- exactly these bytes were written
+  abbrev pub HasSent : WatchedData D → WatchedData D → List ℕ → Type 0
+  HasSent old new bytes = Appends (known old.device) (known new.device) bytes
+
+  -- exactly as many of these bytes were written as the fault says
+  abbrev pub HasSentPart : WatchedData D → WatchedData D → List ℕ → SendFault → Type 0
+  HasSentPart old new bytes fault = HasSent old new (take fault.sent bytes)
+
+  -- the bytes read by a call with this result, which fill the buffer from its start
+  abbrev pub Reads : {E : Type 0} → WatchedData D → WatchedData D → Result ℕ E → List ℕ → Type 0
+  Reads old new result buffer = ReadConsumes (known old.device) (known new.device) result buffer
+
+  -- the bytes written by a call with this result, from the start of these bytes
+  abbrev pub Writes : {E : Type 0} → WatchedData D → WatchedData D → Result ℕ E → List ℕ → Type 0
+  Writes old new result bytes = WriteAppends (known old.device) (known new.device) result bytes
 
 -- at most this many failures were counted in between: the reader or writer before and after
 abbrev pub FailsAtMost : {D : Type 0} → WatchedData D → WatchedData D → ℕ → Type 0

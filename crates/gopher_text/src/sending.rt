@@ -1,7 +1,7 @@
 //! Sending all bytes to a writer: `send`.
 
-ghost use Rattle.std.specs.Prelude.{◌<◌, length, take, IfErr, OnOk, OnErr};
-ghost use Rattle.gopher_text.specs.Watched.{FailsAtMost, HasFailed, HasSent};
+ghost use Rattle.std.specs.Prelude.{◌<◌, length, IfErr, OnOk, OnErr};
+ghost use Rattle.gopher_text.specs.Watched.{FailsAtMost, HasFailed, HasSent, HasSentPart};
 
 use crate::fault::SendFault;
 use crate::watched::Watched;
@@ -19,8 +19,7 @@ const MAX_RETRIES: u64 = 4_095;
 #[tactic(auto, using(crate::proofs::Streams::appends_more))]
 pub fn send<W: Write>(writer: &mut Watched<W>, bytes: &[u8]) -> Result<(), SendFault>
     ensures all { OnOk result (HasSent W.contents writer.old writer.new bytes.now) }
-    ensures sent { IfErr result
-        (λ fault. HasSent W.contents writer.old writer.new (take fault.sent bytes.now)) }
+    ensures sent { IfErr result (HasSentPart W.contents writer.old writer.new bytes.now) }
     ensures part { IfErr result (λ fault. fault.sent < length bytes.now) }
     ensures failed { OnErr result (HasFailed writer.old.failures writer.new.failures) }
     ensures interruptions { FailsAtMost writer.old writer.new 4096 }

@@ -2,8 +2,8 @@
 
 ghost use Rattle.std.specs.Prelude.{◌≡◌};
 ghost use Rattle.std.specs.Io.{ReadsAtMost, WritesAtMost};
-ghost use Rattle.std.specs.Io.KnownBytes.{Keeps, ReadConsumes, WriteAppends};
-ghost use Rattle.gopher_text.specs.Watched.{WatchedData, CountsFailure, CountsErrors, CountsWrite};
+ghost use Rattle.std.specs.Io.KnownBytes.{Keeps};
+ghost use Rattle.gopher_text.specs.Watched.{WatchedData, CountsFailure, CountsErrors, CountsWrite, Reads, Writes};
 
 use std::io::{self, Read, Write};
 use std::marker::Model;
@@ -63,8 +63,7 @@ impl<D: Read> Read for Watched<D> {
 
     fn read(&mut self, buf: &mut [u8]) -> io::Result<usize>
         ensures bound { ReadsAtMost result buf.new }
-        ensures bytes { ReadConsumes (D.remaining self.old.device) (D.remaining self.new.device)
-            result buf.new }
+        ensures bytes { Reads D.remaining self.old self.new result buf.new }
         ensures count { CountsErrors self.old.failures self.new.failures result }
     {
         let outcome = self.device.read(buf);
@@ -80,8 +79,7 @@ impl<D: Write> Write for Watched<D> {
 
     fn write(&mut self, buf: &[u8]) -> io::Result<usize>
         ensures bound { WritesAtMost result buf.now }
-        ensures bytes { WriteAppends (D.contents self.old.device) (D.contents self.new.device)
-            result buf.now }
+        ensures bytes { Writes D.contents self.old self.new result buf.now }
         ensures count { CountsWrite self.old.failures self.new.failures buf.now result }
     {
         let answer = self.device.write(buf);
