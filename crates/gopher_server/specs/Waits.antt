@@ -1,15 +1,19 @@
 -- How long a server thread may wait for events, in milliseconds.
-use Rattle.std.specs.Prelude.{◌≡◌, ℕ, ◌*◌, ◌-◌, ◌++◌, min, Bool, if◌then◌else◌, Option, Some}
+use Rattle.std.specs.Prelude.{◌≡◌, ℕ, ◌*◌, ◌-◌, ◌==◌, ◌&&◌, ◌++◌, length, min, Bool, if◌then◌else◌, Option, Some}
 use Rattle.std.specs.Duration.{as_nanos}
 use Rattle.std.specs.Option.{is_some, option_map, option_to_list}
 use Rattle.std.specs.declared.time.Duration.{Duration}
 use Rattle.std.specs.List.{reduce}
-use Rattle.gopher_server.specs.Accepting.{pause_end}
-use Rattle.gopher_server.specs.Batch.{BatchData}
-use Rattle.gopher_server.specs.Held.{deadlines, foremost, queue}
+use Rattle.gopher_server.specs.Accepting.{has_ended, pause_end}
+use Rattle.gopher_server.specs.Held.{deadlines, foremost, held_entries, queue}
 use Rattle.gopher_server.specs.ThreadLog as log
 use Rattle.gopher_server.specs.declared.decisions.accepting.Accepting.{Accepting}
 use Rattle.gopher_server.specs.declared.decisions.held.Held.{Held}
+use Rattle.gopher_server.specs.declared.logging.thread_log.ThreadLog.{ThreadLog}
+
+-- a thread has nothing left to do: it accepts no more, and holds no connection
+abbrev pub is_done : {T : Type 0} → Accepting → Held T → Bool
+is_done state held = has_ended state && (length (held_entries held) == 0)
 
 -- the shorter of two waits, or the first of two times, of those that there are
 abbrev pub shorter : Option ℕ → Option ℕ → Option ℕ
@@ -24,9 +28,9 @@ longest_wait searches resume deadline log now =
 
 -- a thread waits as long as it may, by its connections, its accepting and the lines of its log, at
 -- some time of its clock
-abbrev pub IsLongestWait : {T : Type 0} → Held T → Accepting → BatchData → Option Duration → Type 0
-IsLongestWait held state lines wait =
+abbrev pub IsLongestWait : {T : Type 0} → Held T → Accepting → ThreadLog → Option Duration → Type 0
+IsLongestWait held state thread_log wait =
     let searches = is_some (foremost (queue held)) in
     let deadline = option_map (λ pair. pair.1) (foremost (deadlines held)) in
     (now : ℕ) × (option_map as_nanos wait ≡ option_map (λ millis. millis * 1_000_000)
-    (longest_wait searches (pause_end state) deadline (log.poll_timeout lines) now))
+    (longest_wait searches (pause_end state) deadline (log.poll_timeout thread_log.batch) now))

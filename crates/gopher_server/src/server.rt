@@ -1,9 +1,7 @@
 //! A server thread at work (`serve`): accepting clients, and its round of events.
 
-ghost use Rattle.std.specs.Prelude.{◌≡◌, ◌&&◌, ◌==◌, length};
-ghost use Rattle.gopher_server.specs.Accepting.{has_ended};
-ghost use Rattle.gopher_server.specs.Held.{held_entries};
-ghost use Rattle.gopher_server.specs.Waits.{IsLongestWait};
+ghost use Rattle.std.specs.Prelude.{◌≡◌};
+ghost use Rattle.gopher_server.specs.Waits.{IsLongestWait, is_done};
 ghost use Rattle.gopher_server.specs.declared.decisions.accepting.Accepting.TheVariants.{Ended};
 ghost use Rattle.gopher_server.specs.declared.server.ThreadEnd.TheVariants.{Failed};
 
@@ -171,8 +169,7 @@ impl<'a, A: Answers<'a> + Drop> Server<'a, A> {
 
     // Whether nothing is left to do.
     fn is_done(&self) -> bool
-        ensures { result ≡ (has_ended self.now.acceptor.state
-            && (length (held_entries self.now.connections) == 0)) }
+        ensures { result ≡ is_done self.now.acceptor.state self.now.connections }
     {
         self.acceptor.state.has_ended() && self.connections.len() == 0
     }
@@ -184,8 +181,7 @@ impl<'a, A: Answers<'a> + Drop> Server<'a, A> {
 
     // How long it may wait for events; `None` if it may wait until one comes.
     fn poll_timeout(&self, clock: &impl Clock) -> Option<Duration>
-        ensures { IsLongestWait self.now.connections self.now.acceptor.state
-            self.now.log.batch result }
+        ensures { IsLongestWait self.now.connections self.now.acceptor.state self.now.log result }
     {
         let searches = self.connections.next_search().is_some();
         let resume = self.acceptor.state.pause_end();
