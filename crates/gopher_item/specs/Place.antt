@@ -44,6 +44,11 @@ address_fault host port =
     if not (is_host host) then Some BadHost else
     (if port == 0 then Some BadPort else None)
 
+-- making the address of these parts fails with their first fault, returns the address, or is out of
+-- memory
+abbrev pub MakesHome : List ℕ → ℕ → Result HomeData ItemFault → Type 0
+MakesHome host port = Makes (address_fault host port) (record { host = host; port = port })
+
 -- the first fault of the parts of a place, if they have one
 abbrev pub place_fault : ℕ → List ℕ → List ℕ → ℕ → Option ItemFault
 place_fault kind selector host port =

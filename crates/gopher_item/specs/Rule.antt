@@ -1,8 +1,9 @@
 -- A rule: the places of one server whose selectors begin with a prefix.
-use Rattle.std.specs.Prelude.{ℕ, Bool, ◌&&◌, not, List, map, Option, Some, nat_eq, ◌==◌, if◌then◌else◌}
+use Rattle.std.specs.Prelude.{ℕ, Bool, ◌&&◌, not, List, map, Option, Some, Result, nat_eq, ◌==◌, if◌then◌else◌}
 use Rattle.std.specs.List.{starts_with}
 use Rattle.std.specs.Cmp.Lexicographic.{pointwise}
 use Rattle.gopher_bytes.specs.Case.{lower_case}
+use Rattle.gopher_item.specs.Fault.{Makes}
 use Rattle.gopher_item.specs.Place.{PlaceData, address_fault, is_selector}
 use Rattle.gopher_item.specs.declared.fault.ItemFault.{ItemFault}
 use Rattle.gopher_item.specs.declared.fault.ItemFault.TheVariants.{BadSelector}
@@ -21,6 +22,10 @@ rule_fault host port prefix =
 -- the rule of these parts: its host in lower case
 abbrev pub rule_of : List ℕ → ℕ → List ℕ → RuleData
 rule_of host port prefix = record { host = map lower_case host; port = port; prefix = prefix }
+
+-- making the rule of these parts fails with their first fault, returns the rule, or is out of memory
+abbrev pub MakesRule : List ℕ → ℕ → List ℕ → Result RuleData ItemFault → Type 0
+MakesRule host port prefix = Makes (rule_fault host port prefix) (rule_of host port prefix)
 
 -- the rule covers the place
 abbrev pub covers : RuleData → PlaceData → Bool

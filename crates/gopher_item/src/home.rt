@@ -1,8 +1,7 @@
 //! `Home`: the server's own host and port.
 
 ghost use Rattle.std.specs.Prelude.{◌≡◌};
-ghost use Rattle.gopher_item.specs.Fault.{Makes};
-ghost use Rattle.gopher_item.specs.Place.{address_fault};
+ghost use Rattle.gopher_item.specs.Place.{MakesHome};
 
 use crate::fault::ItemFault;
 use crate::fields::address_fault;
@@ -36,8 +35,7 @@ impl Home {
     /// - `BadPort` (4): the port is 0
     /// - `NoMemory` (90)
     pub fn new(alloc: Global, host: &[u8], port: u16) -> Result<Home, ItemFault>
-        ensures { Makes (address_fault host.now port)
-            (record { host = host.now; port = port }) result }
+        ensures { MakesHome host.now port result }
     {
         if let Some(fault) = address_fault(host, port) {
             return Err(fault);

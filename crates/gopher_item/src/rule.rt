@@ -1,8 +1,7 @@
 //! `Rule`: the places of one server whose selectors begin with a prefix.
 
 ghost use Rattle.std.specs.Prelude.{◌≡◌};
-ghost use Rattle.gopher_item.specs.Fault.{Makes};
-ghost use Rattle.gopher_item.specs.Rule.{RuleData, covers, rule_fault, rule_of};
+ghost use Rattle.gopher_item.specs.Rule.{MakesRule, RuleData, covers};
 
 use crate::fault::ItemFault;
 use crate::fields::{is_selector, lowered_host};
@@ -41,8 +40,7 @@ impl Rule {
     /// - `BadPort` (4): the port is 0
     /// - `NoMemory` (90)
     pub fn new(alloc: Global, host: &[u8], port: u16, prefix: &[u8]) -> Result<Rule, ItemFault>
-        ensures { Makes (rule_fault host.now port prefix.now)
-            (rule_of host.now port prefix.now) result }
+        ensures { MakesRule host.now port prefix.now result }
     {
         if !is_selector(prefix) {
             return Err(ItemFault::BadSelector);
