@@ -31,8 +31,7 @@ module _ {V P A S : Type 0} {g : Ghosts VersionData Update S} where
   -- the version that the waiting updates make is one of this history, and its record begins with
   -- that of the published version
   abbrev pub NextFollows : Book → Writer VersionData Update V P A S g → Type 0
-  NextFollows history writer =
-      FollowsVersion history writer.desk.shown.value (next_version writer)
+  NextFollows history writer = FollowsVersion history writer.desk.shown.value (next_version writer)
 
   -- whether the updates that waited were applied and published
   abbrev pub WriterCatchesUp : Bool → Writer VersionData Update V P A S g
