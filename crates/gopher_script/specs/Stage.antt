@@ -57,9 +57,10 @@ scope_of_draft draft = record { allow = draft.allow; deny = draft.deny }
 abbrev pub fault_of_start : DraftData → ℕ → ℕ → Option OpenFault
 fault_of_start draft places tries = open_fault (scope_of_draft draft) draft.seeds places tries
 
-abbrev pub start_line : Option OpenFault → List ℕ
-start_line None = codes "ok\n"
-start_line (Some fault) = refused_line (open_fault_code fault)
+abbrev pub start_line : DraftData → ℕ → ℕ → List ℕ
+start_line draft places tries =
+    option_map_or (λ fault. refused_line (open_fault_code fault))
+    (fault_of_start draft places tries) (codes "ok\n")
 
 -- after a failed start the rules and seeds are unchanged
 abbrev pub after_start : DraftData → ℕ → ℕ → Stage
@@ -73,7 +74,7 @@ answer_before draft Nothing = Some []
 answer_before draft (Allow rule) = Some (taken_line (fault_of_rule rule))
 answer_before draft (Deny rule) = Some (taken_line (fault_of_rule rule))
 answer_before draft (Seed place) = Some (taken_line (fault_of_place place))
-answer_before draft (Start places tries) = Some (start_line (fault_of_start draft places tries))
+answer_before draft (Start places tries) = Some (start_line draft places tries)
 answer_before draft command = None
 
 abbrev pub after_before : DraftData → Command → Stage
@@ -95,30 +96,31 @@ abbrev pub scope_in : List EventData → ScopeData
 scope_in (Opened opening ∷ events) = opening.scope
 scope_in events = record { allow = []; deny = [] }
 
--- the answer to a page for a number
-abbrev pub page_line : List EventData → ℕ → PageData → List ℕ
-page_line events number page =
-    option_map_or (λ fault. refused_line (found_fault_code fault))
-    (found_fault events number page.place) (added_line (added_by events number page))
-
-abbrev pub after_page : List EventData → ℕ → PageData → List EventData
-after_page events number page =
-    if is_some (found_fault events number page.place) then events
-    else events ++ FoundEvent number page ∷ []
-
 -- the page of a reply, in the scope of the record
 abbrev pub page_in : List EventData → PlaceData → List ℕ → PageData
 page_in events place reply = page_of (scope_in events) place reply
 
+-- the answer to a reply for a number, as the page of this place
+abbrev pub page_line : List EventData → ℕ → PlaceData → List ℕ → List ℕ
+page_line events number place reply =
+    option_map_or (λ fault. refused_line (found_fault_code fault))
+    (found_fault events number (page_in events place reply).place)
+    (added_line (added_by events number (page_in events place reply)))
+
+abbrev pub after_page : List EventData → ℕ → PlaceData → List ℕ → List EventData
+after_page events number place reply =
+    if is_some (found_fault events number (page_in events place reply).place) then events
+    else events ++ FoundEvent number (page_in events place reply) ∷ []
+
 abbrev pub found_line : List EventData → ℕ → PlaceData → List ℕ → List ℕ
 found_line events number place reply =
     option_map_or (λ fault. refused_line (item_fault_code fault)) (fault_of_place place)
-    (page_line events number (page_in events (made_place place) reply))
+    (page_line events number (made_place place) reply)
 
 abbrev pub after_found : List EventData → ℕ → PlaceData → List ℕ → List EventData
 after_found events number place reply =
     if is_some (fault_of_place place) then events
-    else after_page events number (page_in events (made_place place) reply)
+    else after_page events number (made_place place) reply
 
 abbrev pub fail_line : List EventData → ℕ → List ℕ
 fail_line events number = if is_out_in events number then codes "ok\n" else refused_line 52

@@ -3,7 +3,7 @@
 ghost use Rattle.std.specs.Prelude.{◌≡◌, OnOk};
 ghost use Rattle.gopher_catalogue.specs.Step.{after_turn, turn_of};
 ghost use Rattle.gopher_script.specs.Answer.{ReturnsBytes};
-ghost use Rattle.gopher_script.specs.Stage.{turn_line, page_line, page_in, after_page, after_found, found_line, fail_line, after_fail, search_lines, occurs_lines};
+ghost use Rattle.gopher_script.specs.Stage.{turn_line, page_line, after_page, after_found, found_line, fail_line, after_fail, search_lines, occurs_lines};
 
 use crate::command::{PlaceParts, QueryText};
 use crate::lines::{added_line, refused_line, take_line};
@@ -15,12 +15,12 @@ use gopher_text::MAX_REPLY;
 use std::alloc::Global;
 
 /// Claims the next place.
-pub fn claim(alloc: Global, catalogue: &mut Catalogue) -> Result<Vec<u8>, NoMemory>
-    ensures answer { ReturnsBytes result (turn_line (turn_of catalogue.old)) }
+pub fn claim(alloc: Global, crawl: &mut Catalogue) -> Result<Vec<u8>, NoMemory>
+    ensures answer { ReturnsBytes result (turn_line (turn_of crawl.old)) }
     ensures record { OnOk result
-        (catalogue.new ≡ after_turn catalogue.old (turn_of catalogue.old)) }
+        (crawl.new ≡ after_turn crawl.old (turn_of crawl.old)) }
 {
-    match catalogue.claim()? {
+    match crawl.claim()? {
         Turn::Take(claim) => take_line(alloc, claim.number, &claim.place),
         Turn::Idle => Ok(Vec::from_slice(alloc, b"idle\n")?),
         Turn::Finished => Ok(Vec::from_slice(alloc, b"finished\n")?),
@@ -30,41 +30,41 @@ pub fn claim(alloc: Global, catalogue: &mut Catalogue) -> Result<Vec<u8>, NoMemo
 /// Records the page that `reply` makes for a number.
 pub fn found(
     alloc: Global,
-    catalogue: &mut Catalogue,
+    crawl: &mut Catalogue,
     number: u32,
     parts: &PlaceParts<'_>,
     reply: &[u8],
 ) -> Result<Vec<u8>, NoMemory>
-    ensures answer { ReturnsBytes result (found_line catalogue.old number parts.now reply.now) }
+    ensures answer { ReturnsBytes result (found_line crawl.old number parts.now reply.now) }
     ensures record { OnOk result
-        (catalogue.new ≡ after_found catalogue.old number parts.now reply.now) }
+        (crawl.new ≡ after_found crawl.old number parts.now reply.now) }
 {
     match parts.make(alloc) {
-        Ok(place) => found_at(alloc, catalogue, number, &place, reply),
+        Ok(place) => found_at(alloc, crawl, number, &place, reply),
         Err(fault) => refused_line(alloc, fault.code()),
     }
 }
 
 fn found_at(
     alloc: Global,
-    catalogue: &mut Catalogue,
+    crawl: &mut Catalogue,
     number: u32,
     place: &Place,
     reply: &[u8],
 ) -> Result<Vec<u8>, NoMemory>
     ensures answer { ReturnsBytes result
-        (page_line catalogue.old number (page_in catalogue.old place.now reply.now)) }
+        (page_line crawl.old number place.now reply.now) }
     ensures record { OnOk result
-        (catalogue.new ≡ after_page catalogue.old number (page_in catalogue.old place.now reply.now)) }
+        (crawl.new ≡ after_page crawl.old number place.now reply.now) }
 {
     // For the prover: a block is no longer than its script.
     if reply.len() > MAX_REPLY {
         return Err(NoMemory);
     }
-    let page = Page::of(alloc, catalogue.opening().scope(), place, reply)?;
-    match catalogue.found(number, page) {
+    let page = Page::of(alloc, crawl.opening().scope(), place, reply)?;
+    match crawl.found(number, page) {
         Ok(added) => {
-            catalogue.settle();
+            crawl.settle();
             added_line(alloc, added)
         }
         Err(refused) => refused_line(alloc, refused.fault.code()),
@@ -74,36 +74,32 @@ fn found_at(
 /// Records that the place of a number failed.
 pub fn fail(
     alloc: Global,
-    catalogue: &mut Catalogue,
+    crawl: &mut Catalogue,
     number: u32,
     why: Why,
 ) -> Result<Vec<u8>, NoMemory>
-    ensures answer { ReturnsBytes result (fail_line catalogue.old number) }
-    ensures record { OnOk result (catalogue.new ≡ after_fail catalogue.old number why) }
+    ensures answer { ReturnsBytes result (fail_line crawl.old number) }
+    ensures record { OnOk result (crawl.new ≡ after_fail crawl.old number why) }
 {
-    match catalogue.fail(number, why) {
+    match crawl.fail(number, why) {
         Ok(()) => Ok(Vec::from_slice(alloc, b"ok\n")?),
         Err(refused) => refused_line(alloc, refused.code()),
     }
 }
 
 /// Searches the pages that were found.
-pub fn search(
-    alloc: Global,
-    catalogue: &Catalogue,
-    text: &QueryText<'_>,
-) -> Result<Vec<u8>, NoMemory>
-    ensures { ReturnsBytes result (search_lines catalogue.now text.now) }
+pub fn search(alloc: Global, crawl: &Catalogue, text: &QueryText<'_>) -> Result<Vec<u8>, NoMemory>
+    ensures { ReturnsBytes result (search_lines crawl.now text.now) }
 {
     match Query::read(alloc, text.as_slice()) {
-        Ok(query) => hits_lines(alloc, &catalogue.search(&query)?),
+        Ok(query) => hits_lines(alloc, &crawl.search(&query)?),
         Err(why) => refused_line(alloc, why.code()),
     }
 }
 
 /// Looks up the places of the pages that contain a word.
-pub fn occurs(alloc: Global, catalogue: &Catalogue, word: &[u8]) -> Result<Vec<u8>, NoMemory>
-    ensures { ReturnsBytes result (occurs_lines catalogue.now word.now) }
+pub fn occurs(alloc: Global, crawl: &Catalogue, word: &[u8]) -> Result<Vec<u8>, NoMemory>
+    ensures { ReturnsBytes result (occurs_lines crawl.now word.now) }
 {
-    places_lines(alloc, &catalogue.occurrences(word)?)
+    places_lines(alloc, &crawl.occurrences(word)?)
 }

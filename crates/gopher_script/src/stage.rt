@@ -1,7 +1,7 @@
 //! What each command does before the crawl and during it (`perform`).
 
 ghost use Rattle.std.specs.Prelude.{◌≡◌, [], IfOk, OnOk};
-ghost use Rattle.gopher_script.specs.Stage.{start_line, fault_of_start, after_start, answer_in, after_in, IsAnswer, Performs};
+ghost use Rattle.gopher_script.specs.Stage.{start_line, after_start, answer_in, after_in, IsAnswer, Performs};
 
 use crate::command::Command;
 use crate::crawl::{claim, fail, found, occurs, search};
@@ -32,20 +32,21 @@ pub struct Performed {
 /// Starts the crawl, unless its catalogue can't be opened.
 fn start(alloc: Global, draft: Draft, places: u32, tries: u32) -> Result<Performed, NoMemory>
     ensures answer { IfOk result
-        (λ done. done.answer.items ≡ start_line (fault_of_start draft places tries)) }
+        (λ done. done.answer.items ≡ start_line draft places tries) }
     ensures stage { IfOk result (λ done. done.stage ≡ after_start draft places tries) }
 {
     let Draft { allow, deny, seeds } = draft;
     match Catalogue::open(alloc, Scope::new(allow, deny), seeds, places, tries) {
-        Ok(catalogue) => Ok(Performed {
-            stage: Stage::Crawling(catalogue),
-            answer: Vec::from_slice(alloc, b"ok\n")?,
-        }),
+        Ok(catalogue) => {
+            let stage = Stage::Crawling(catalogue);
+            let answer = Vec::from_slice(alloc, b"ok\n")?;
+            Ok(Performed { stage, answer })
+        }
         Err(refused) => {
-            let answer = refused_line(alloc, refused.fault.code())?;
             let (allow, deny) = refused.scope.into_rules();
             let seeds = refused.seeds;
             let stage = Stage::Gathering(Draft { allow, deny, seeds });
+            let answer = refused_line(alloc, refused.fault.code())?;
             Ok(Performed { stage, answer })
         }
     }
