@@ -1,5 +1,5 @@
 -- The numbers of the program's faults, and the line that the program writes for each.
-use Rattle.std.specs.Prelude.{ℕ, List, [], ◌++◌, codes, ◌+◌, Bool, nat_le}
+use Rattle.std.specs.Prelude.{ℕ, List, [], ◌∷◌, ◌++◌, codes, ◌+◌, Bool, nat_le}
 use Rattle.std.specs.Fmt.{decimal}
 use Rattle.gopher_scope.specs.Rows.{key_name}
 use Rattle.gopher_scope.specs.Fault.{site_fault_code}
@@ -66,7 +66,7 @@ details_bytes details = detail_bytes details.0 ++ detail_bytes details.1
 -- the line of a number and two details
 abbrev pub line_bytes : ℕ → Detail × Detail → List ℕ
 line_bytes code details =
-    (codes "hole: " ++ decimal code) ++ (details_bytes details ++ codes "\n")
+    (codes "hole: " ++ decimal code) ++ (details_bytes details ++ 10 ∷ [])
 
 -- the line of a fault
 abbrev pub fault_line : ProgramFault → List ℕ

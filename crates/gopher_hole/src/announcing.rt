@@ -1,7 +1,7 @@
 //! What the program writes: its texts, the line after it listens, and the line of a fault, with the
 //! setting or seed that it names.
 
-ghost use Rattle.std.specs.Prelude.{◌≡◌, ◌++◌, codes, IfOk, OnOk};
+ghost use Rattle.std.specs.Prelude.{◌≡◌, [], ◌∷◌, ◌++◌, IfOk, OnOk};
 ghost use Rattle.std.specs.Fmt.{decimal};
 ghost use Rattle.gopher_script.specs.Answer.{status_line};
 ghost use Rattle.gopher_script.specs.Replay.{SendsAnswer};
@@ -136,7 +136,7 @@ fn write_rest<E: Write>(
     error: &mut Watched<E>,
     details: (Detail, Detail),
 ) -> Result<(), ReplayFault>
-    ensures { SendsAnswer E.contents (details_bytes details ++ codes "\n") error.old error.new result }
+    ensures { SendsAnswer E.contents (details_bytes details ++ 10 ∷ []) error.old error.new result }
 {
     if let Err(fault) = write_details(error, details) {
         return Err(fault);
