@@ -5,7 +5,7 @@ use Rattle.std.specs.List.{sum_by}
 use Rattle.std.specs.List.Sorted.{IsStrictlySortedBy}
 use Rattle.gopher_page.specs.Packed.{AreCounts}
 use Rattle.gopher_page.specs.Page.{PageData, is_large, page_with}
-use Rattle.gopher_segment.specs.Large.{in_table, pages_in_table, large_from}
+use Rattle.gopher_segment.specs.Large.{in_table, table_pages, large_from}
 use Rattle.gopher_segment.specs.SegmentRows.{AreSmall}
 
 -- ---- a page as a table has it
@@ -20,7 +20,7 @@ small_page page small = by (is_large page)
     by true = omega arith
     by false = small
 
-pub small_in_table : (pages : List PageData) → AreSmall pages → AreSmall (pages_in_table pages)
+pub small_in_table : (pages : List PageData) → AreSmall pages → AreSmall (table_pages pages)
 small_in_table [] small = tt
 small_in_table (page ∷ pages) small = (small_page page small.0, small_in_table pages small.1)
 
@@ -35,21 +35,21 @@ sound_in_table page sound = by (is_large page)
     by true = no_counts
     by false = sound
 
-pub length_in_table : (pages : List PageData) → length (pages_in_table pages) ≡ length pages
+pub length_in_table : (pages : List PageData) → length (table_pages pages) ≡ length pages
 length_in_table pages = length-map pages in_table
 
 -- ---- the indices of large pages
 
-pub none_large : (index : ℕ) (pages : List PageData) → large_from index pages ≡ [] → pages_in_table pages ≡ pages
+pub none_large : (index : ℕ) (pages : List PageData) → large_from index pages ≡ [] → table_pages pages ≡ pages
 none_large index [] none = refl
 none_large index (page ∷ pages) none = by (is_large page) refl none (none_large (index + 1) pages)
   where
-    by : (t : Bool) → is_large page ≡ t → cond t (index ∷ large_from (index + 1) pages) (large_from (index + 1) pages) ≡ [] → (large_from (index + 1) pages ≡ [] → pages_in_table pages ≡ pages)
-        → in_table page ∷ pages_in_table pages ≡ page ∷ pages
+    by : (t : Bool) → is_large page ≡ t → cond t (index ∷ large_from (index + 1) pages) (large_from (index + 1) pages) ≡ [] → (large_from (index + 1) pages ≡ [] → table_pages pages ≡ pages)
+        → in_table page ∷ table_pages pages ≡ page ∷ pages
     by true e some rest = absurd cc
     by false e some rest =
         let here : in_table page ≡ page = ap (left page) e in
-        let behind : pages_in_table pages ≡ pages = rest some in
+        let behind : table_pages pages ≡ pages = rest some in
         λ i. here i ∷ behind i
 
 -- each is the index of a page
@@ -78,13 +78,13 @@ set_behind (first ∷ done) old rest zero new here = absurd (omega arith)
 set_behind (first ∷ done) old rest (suc index) new here = ap (λ l. first ∷ l) (set_behind done old rest index new (omega arith))
 
 pub written_from : (value : ℕ → ℕ) (f : PageData → ℕ) (done : List ℕ) (index : ℕ) (pages : List PageData) → index ≡ length done → ((k : ℕ) → k < length pages → value (index + k) ≡ get_or (map f pages) k 0)
-    → written value (large_from index pages) (done ++ map f (pages_in_table pages)) ≡ done ++ map f pages
+    → written value (large_from index pages) (done ++ map f (table_pages pages)) ≡ done ++ map f pages
 written_from value f done index [] here is = refl
 written_from value f done index (page ∷ pages) here is =
     by (is_large page) refl
     (λ first same.
-    ap (λ n. written value (large_from (index + 1) pages) (done ++ n ∷ map f (pages_in_table pages))) same
-    ∙ ap (written value (large_from (index + 1) pages)) (sym (append_assoc done (f page ∷ []) (map f (pages_in_table pages))))
+    ap (λ n. written value (large_from (index + 1) pages) (done ++ n ∷ map f (table_pages pages))) same
+    ∙ ap (written value (large_from (index + 1) pages)) (sym (append_assoc done (f page ∷ []) (map f (table_pages pages))))
     ∙ written_from value f (done ++ f page ∷ []) (index + 1) pages (omega (arith, here, lasts done)) more
     ∙ append_assoc done (f page ∷ []) (map f pages))
   where
@@ -102,9 +102,9 @@ written_from value f done index (page ∷ pages) here is =
         let none : index ≡ index + 0 = omega arith in
         ap value none ∙ is 0 (omega arith)
 
-    by : (t : Bool) → is_large page ≡ t → ((first : ℕ) → first ≡ f page → written value (large_from (index + 1) pages) (done ++ first ∷ map f (pages_in_table pages)) ≡ done ++ f page ∷ map f pages)
-        → written value (cond t (index ∷ large_from (index + 1) pages) (large_from (index + 1) pages)) (done ++ f (in_table page) ∷ map f (pages_in_table pages)) ≡ done ++ f page ∷ map f pages
+    by : (t : Bool) → is_large page ≡ t → ((first : ℕ) → first ≡ f page → written value (large_from (index + 1) pages) (done ++ first ∷ map f (table_pages pages)) ≡ done ++ f page ∷ map f pages)
+        → written value (cond t (index ∷ large_from (index + 1) pages) (large_from (index + 1) pages)) (done ++ f (in_table page) ∷ map f (table_pages pages)) ≡ done ++ f page ∷ map f pages
     by true e rest =
-        ap (written value (large_from (index + 1) pages)) (set_behind done (f (in_table page)) (map f (pages_in_table pages)) index (value index) here)
+        ap (written value (large_from (index + 1) pages)) (set_behind done (f (in_table page)) (map f (table_pages pages)) index (value index) here)
         ∙ rest (value index) first_is
     by false e rest = rest (f (in_table page)) (ap (λ t. f (left page t)) e)

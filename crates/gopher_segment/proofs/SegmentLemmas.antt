@@ -5,7 +5,7 @@ use Rattle.std.specs.List.{flat_map}
 use Rattle.gopher_page.specs.Counts.{count_meant}
 use Rattle.gopher_page.specs.Packed.{AreCounts}
 use Rattle.gopher_page.specs.Page.{PageData}
-use Rattle.gopher_segment.specs.Large.{in_table, pages_in_table}
+use Rattle.gopher_segment.specs.Large.{in_table, table_pages}
 use Rattle.gopher_segment.specs.Postings.{run_of}
 use Rattle.gopher_segment.specs.Rows.{postings_of, page_rows, AreAllInOrder}
 use Rattle.gopher_segment.specs.Segment.{SegmentData, pages_of, meant_counts}
@@ -33,13 +33,13 @@ page_behind first pages page at rows newer told sound here is = λ word.
 
 module _ (word : List ℕ) where
   pub tables_runs : (first : ℕ) (segments : List SegmentData) (tables : List (List (List ℕ × List (ℕ × ℕ)))) → AreConsecutive first segments → AreSegmentTables segments tables
-      → flat_map (postings_of word) tables ≡ run_of first (meant_counts false word (pages_in_table (pages_of segments)))
+      → flat_map (postings_of word) tables ≡ run_of first (meant_counts false word (table_pages (pages_of segments)))
   tables_runs first [] [] consecutive are = refl
   tables_runs first [] (rows ∷ tables) consecutive are = absurd are
   tables_runs first (segment ∷ segments) [] consecutive are = absurd are
   tables_runs first (segment ∷ segments) (rows ∷ tables) consecutive are =
-      let own : List PageData = pages_in_table segment.pages in
-      let left : List PageData = pages_in_table (pages_of segments) in
+      let own : List PageData = table_pages segment.pages in
+      let left : List PageData = table_pages (pages_of segments) in
       let here : postings_of word rows ≡ run_of first (meant_counts false word own) = are.0.tell word ∙ ap (λ n. run_of n (meant_counts false word own)) consecutive.0 in
       let rest : flat_map (postings_of word) tables ≡ run_of (first + length own) (meant_counts false word left) =
       tables_runs (first + length segment.pages) segments tables consecutive.1 are.1 ∙ ap (λ n. run_of (first + n) (meant_counts false word left)) (sym (length_in_table segment.pages)) in
@@ -51,7 +51,7 @@ tables_order [] (rows ∷ tables) are = absurd are
 tables_order (segment ∷ segments) [] are = absurd are
 tables_order (segment ∷ segments) (rows ∷ tables) are = (are.0.order, tables_order segments tables are.1)
 
-pub tables_push : (segments : List SegmentData) (tables : List (List (List ℕ × List (ℕ × ℕ)))) (segment : SegmentData) (rows : List (List ℕ × List (ℕ × ℕ))) → AreSegmentTables segments tables → AreRowsOf segment.first (pages_in_table segment.pages) rows
+pub tables_push : (segments : List SegmentData) (tables : List (List (List ℕ × List (ℕ × ℕ)))) (segment : SegmentData) (rows : List (List ℕ × List (ℕ × ℕ))) → AreSegmentTables segments tables → AreRowsOf segment.first (table_pages segment.pages) rows
     → AreSegmentTables (segments ++ segment ∷ []) (tables ++ rows ∷ [])
 tables_push [] [] segment rows are one = (one, tt)
 tables_push [] (first ∷ tables) segment rows are one = absurd are

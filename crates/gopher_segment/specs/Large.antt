@@ -1,14 +1,19 @@
 -- Large pages: a segment's table leaves out their words.
 use Rattle.std.specs.Prelude.{◌≡◌, ℕ, ◌+◌, Bool, List, [], ◌∷◌, map, slice_index_or, slice_set, if◌then◌else◌}
 use Rattle.gopher_page.specs.Page.{PageData, is_large, page_with}
+use Rattle.gopher_segment.specs.Rows.{RowData, page_rows}
 use Rattle.gopher_segment.specs.Segment.{meant_counts}
 
 -- a page as the table of its segment has it: without its words if it is large
 abbrev pub in_table : PageData → PageData
 in_table page = if is_large page then page_with page.place page.title page.links [] else page
 
-abbrev pub pages_in_table : List PageData → List PageData
-pages_in_table pages = map in_table pages
+abbrev pub table_pages : List PageData → List PageData
+table_pages pages = map in_table pages
+
+-- the rows of a page in the table of its segment
+abbrev pub table_rows : ℕ → PageData → List RowData
+table_rows number page = page_rows number (in_table page).counts
 
 -- the indices of the large pages, if the first page has the index `index`
 abbrev pub large_from : ℕ → List PageData → List ℕ

@@ -1,11 +1,10 @@
 //! Making the rows of pages, one page after another.
 
-ghost use Rattle.std.specs.Prelude.{◌≡◌, ◌+◌, ◌≤◌, ◌-◌, ◌^◌, ◌++◌, length, map, min, IfOk, OnOk};
-ghost use Rattle.std.specs.Arc.{arc_value};
+ghost use Rattle.std.specs.Prelude.{◌≡◌, ◌+◌, ◌≤◌, ◌-◌, ◌^◌, ◌++◌, length, min, IfOk, OnOk};
 ghost use Rattle.gopher_page.specs.Packed.{AreCounts};
-ghost use Rattle.gopher_segment.specs.Large.{in_table, pages_in_table};
+ghost use Rattle.gopher_page.specs.Page.{held};
+ghost use Rattle.gopher_segment.specs.Large.{table_pages, table_rows};
 ghost use Rattle.gopher_segment.specs.Segment.{words_count};
-ghost use Rattle.gopher_segment.specs.Rows.{page_rows};
 ghost use Rattle.gopher_segment.specs.SegmentRows.{AreSmall, Tell};
 
 use crate::row::Row;
@@ -16,8 +15,7 @@ use std::sync::Arc;
 
 // Appends the rows of the page `number`, which has none if it is large.
 fn add_page<'a>(number: u16, page: &'a Page, rows: &mut Vec<Row<'a>>) -> Result<(), NoMemory>
-    ensures rows { OnOk result
-        (rows.new.items ≡ rows.old.items ++ page_rows number (in_table page.now).counts) }
+    ensures rows { OnOk result (rows.new.items ≡ rows.old.items ++ table_rows number page.now) }
     ensures sound { AreCounts page.now.counts }
 {
     let counts = page.counts();
@@ -36,7 +34,7 @@ fn add_page<'a>(number: u16, page: &'a Page, rows: &mut Vec<Row<'a>>) -> Result<
 /// Returns the number of rows of all pages, at most `usize::MAX`: one for each distinct word of
 /// each page that isn't large.
 pub fn rows_len(pages: &[Arc<Page>]) -> usize
-    ensures { result ≡ min (words_count (pages_in_table (map arc_value pages.now))) (2 ^ 64 - 1) }
+    ensures { result ≡ min (words_count (table_pages (held pages.now))) (2 ^ 64 - 1) }
 {
     let mut rows = 0_usize;
     for page in pages {
@@ -55,9 +53,8 @@ pub(crate) fn rows_of<'a>(
     pages: &'a [Arc<Page>],
 ) -> Result<Vec<Row<'a>>, NoMemory>
     requires { first + length pages.now ≤ 65536 }
-    ensures tell { IfOk result
-        (λ rows. Tell first (pages_in_table (map arc_value pages.now)) rows.items) }
-    ensures small { IfOk result (λ rows. AreSmall (map arc_value pages.now)) }
+    ensures tell { IfOk result (λ rows. Tell first (table_pages (held pages.now)) rows.items) }
+    ensures small { IfOk result (λ rows. AreSmall (held pages.now)) }
 {
     let mut rows = Vec::with_capacity(alloc, rows_len(pages))?;
     for (index, page) in pages.iter().enumerate() {

@@ -1,9 +1,8 @@
 //! Merging the tables of consecutive segments into one.
 
 ghost use Rattle.std.specs.Prelude.{◌≡◌, ◌<◌, None, ◌++◌, length, map, drop, IfOk, IfSome, OnOk};
-ghost use Rattle.std.specs.List.{flat_map};
 ghost use Rattle.std.specs.Option.{option_copied};
-ghost use Rattle.gopher_segment.specs.Rows.{AreRowsInOrder, first_word, first_run, IsLowest, is_at, LackBefore, is_lower, passed, rows_left, taken, AreAllInOrder, HavePostingsOf};
+ghost use Rattle.gopher_segment.specs.Rows.{AreRowsInOrder, first_word, first_run, IsLowest, is_at, LackBefore, is_lower, passed, rows_left, taken, taken_of, AreAllInOrder, HavePostingsOf};
 
 use crate::runs::{Run, Runs};
 use crate::table::Table;
@@ -150,8 +149,7 @@ fn take_runs(
     requires { LackBefore word.now first cursors.old }
     ensures cursors { OnOk result (cursors.new ≡ map (passed word.now) cursors.old) }
     ensures whole { runs.new.whole ≡ runs.old.whole }
-    ensures begun { OnOk result
-        (runs.new.begun ≡ runs.old.begun ++ flat_map (taken word.now) cursors.old) }
+    ensures begun { OnOk result (runs.new.begun ≡ runs.old.begun ++ taken_of word.now cursors.old) }
 {
     for index in first..cursors.len() {
         take_run(word, &mut cursors[index], runs)?;

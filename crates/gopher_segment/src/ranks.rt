@@ -1,7 +1,7 @@
 //! The ranks of pages in place order, by which searches compare the places of a segment's pages.
 
-ghost use Rattle.std.specs.Prelude.{◌≡◌, map, IfOk};
-ghost use Rattle.std.specs.Arc.{arc_value};
+ghost use Rattle.std.specs.Prelude.{◌≡◌, IfOk};
+ghost use Rattle.gopher_page.specs.Page.{held};
 ghost use Rattle.gopher_segment.specs.Ranks.{AreNumbered, AreRanks, AreScattered, HaveIndices};
 
 use gopher_bytes::NoMemory;
@@ -29,7 +29,7 @@ impl<'a> Model for Placed<'a> {
 
 // The places of pages, with the index of each page.
 fn placed_of<'a>(alloc: Global, pages: &'a [Arc<Page>]) -> Result<Vec<Placed<'a>>, NoMemory>
-    ensures { IfOk result (λ placed. AreNumbered (map arc_value pages.now) placed.items) }
+    ensures { IfOk result (λ placed. AreNumbered (held pages.now) placed.items) }
 {
     let mut placed = Vec::with_capacity(alloc, pages.len())?;
     for (index, page) in pages.iter().enumerate() {
@@ -56,7 +56,7 @@ fn positions(alloc: Global, sorted: &[Placed<'_>]) -> Result<Vec<u16>, NoMemory>
 /// Returns the rank of each page in place order: of two pages, the one with the higher rank doesn't
 /// come first.
 pub(crate) fn ranks_of(alloc: Global, pages: &[Arc<Page>]) -> Result<Vec<u16>, NoMemory>
-    ensures { IfOk result (λ ranks. AreRanks (map arc_value pages.now) ranks.items) }
+    ensures { IfOk result (λ ranks. AreRanks (held pages.now) ranks.items) }
 {
     let mut sorted = placed_of(alloc, pages)?;
     sorted.sort_by(|placed, other| placed.place.cmp(other.place))?;

@@ -1,9 +1,9 @@
 //! `Segment`: consecutive pages with a table of their words; made of pages, searched by word.
 
-ghost use Rattle.std.specs.Prelude.{None, ◌≡◌, ◌<◌, ◌+◌, ◌≤◌, length, map, replicate, IfOk, IfSome};
-ghost use Rattle.std.specs.Arc.{arc_value};
+ghost use Rattle.std.specs.Prelude.{None, ◌≡◌, ◌<◌, ◌+◌, ◌≤◌, length, replicate, IfOk, IfSome};
 ghost use Rattle.std.specs.List.{All};
-ghost use Rattle.gopher_segment.specs.Large.{large_from, pages_in_table};
+ghost use Rattle.gopher_page.specs.Page.{held};
+ghost use Rattle.gopher_segment.specs.Large.{large_from, table_pages};
 ghost use Rattle.gopher_segment.specs.Postings.{IsPostingListOf};
 ghost use Rattle.gopher_segment.specs.Ranks.{AreRanks};
 ghost use Rattle.gopher_segment.specs.Segment.{pages_of, meant_counts};
@@ -40,8 +40,7 @@ pub struct Segment {
 }
 
 impl Model for Segment {
-    ghost use Rattle.std.specs.Prelude.{map};
-    ghost use Rattle.std.specs.Arc.{arc_value};
+    ghost use Rattle.gopher_page.specs.Page.{held};
     ghost use Rattle.gopher_segment.specs.Segment.{SegmentData};
 
     ghost Value = { SegmentData };
@@ -49,11 +48,11 @@ impl Model for Segment {
     ghost use Rattle.gopher_segment.specs.Ranks.{AreRanks};
     ghost use Rattle.gopher_segment.specs.SegmentRows.{IsSegment};
 
-    ghost view = { λ s. record { first = s.first; pages = map arc_value s.pages.items } };
+    ghost view = { λ s. record { first = s.first; pages = held s.pages.items } };
 
     ghost invariant = { λ s.
-        IsSegment s.first (map arc_value s.pages.items) s.table s.large.items
-        × AreRanks (map arc_value s.pages.items) s.ranks.items };
+        IsSegment s.first (held s.pages.items) s.table s.large.items
+        × AreRanks (held s.pages.items) s.ranks.items };
 }
 
 impl Segment {
@@ -64,10 +63,10 @@ impl Segment {
         pages: Vec<Arc<Page>>,
         table: Table,
     ) -> Result<Segment, NoMemory>
-        requires table { AreRowsOf first (pages_in_table (map arc_value pages.items)) table }
-        requires small { AreSmall (map arc_value pages.items) }
+        requires table { AreRowsOf first (table_pages (held pages.items)) table }
+        requires small { AreSmall (held pages.items) }
         ensures first { IfOk result (λ segment. segment.first ≡ first) }
-        ensures pages { IfOk result (λ segment. segment.pages ≡ map arc_value pages.items) }
+        ensures pages { IfOk result (λ segment. segment.pages ≡ held pages.items) }
     {
         let ranks = ranks_of(alloc, &pages)?;
         let large = large_of(alloc, &pages)?;
@@ -87,7 +86,7 @@ impl Segment {
     pub fn of_pages(alloc: Global, first: usize, pages: &[Arc<Page>]) -> Result<Segment, NoMemory>
         requires { first + length pages.now ≤ 65536 }
         ensures first { IfOk result (λ segment. segment.first ≡ first) }
-        ensures pages { IfOk result (λ segment. segment.pages ≡ map arc_value pages.now) }
+        ensures pages { IfOk result (λ segment. segment.pages ≡ held pages.now) }
     {
         let rows = rows_of(alloc, first, pages)?;
         let table = join(alloc, rows)?;
@@ -102,9 +101,9 @@ impl Segment {
         first: usize,
         segments: &[Arc<Segment>],
     ) -> Result<Segment, NoMemory>
-        requires { AreConsecutive first (map arc_value segments.now) }
+        requires { AreConsecutive first (held segments.now) }
         ensures first { IfOk result (λ made. made.first ≡ first) }
-        ensures pages { IfOk result (λ made. made.pages ≡ pages_of (map arc_value segments.now)) }
+        ensures pages { IfOk result (λ made. made.pages ≡ pages_of (held segments.now)) }
     {
         let mut cursors = cursors_of(alloc, segments)?;
         let table = merge(alloc, &mut cursors)?;
@@ -114,7 +113,7 @@ impl Segment {
 
     /// Returns the pages.
     pub fn pages(&self) -> &[Arc<Page>]
-        ensures pages { map arc_value result.now ≡ self.now.pages }
+        ensures pages { held result.now ≡ self.now.pages }
         ensures small { AreSmall self.now.pages }
     {
         let _table = &self.table;
@@ -131,7 +130,7 @@ impl Segment {
 
     /// Returns the table of the words, which leaves out large pages.
     pub(crate) fn table(&self) -> &Table
-        ensures { AreRowsOf self.now.first (pages_in_table self.now.pages) result.now }
+        ensures { AreRowsOf self.now.first (table_pages self.now.pages) result.now }
     {
         &self.table
     }
@@ -187,7 +186,7 @@ impl Segment {
 }
 
 fn cursors_of<'a>(alloc: Global, segments: &'a [Arc<Segment>]) -> Result<Vec<Cursor<'a>>, NoMemory>
-    ensures { IfOk result (λ made. AreSegmentTables (map arc_value segments.now) made.items) }
+    ensures { IfOk result (λ made. AreSegmentTables (held segments.now) made.items) }
 {
     let mut cursors = Vec::with_capacity(alloc, segments.len())?;
     for segment in segments {
@@ -206,9 +205,8 @@ fn pages_len(segments: &[Arc<Segment>]) -> usize {
 }
 
 fn shared_pages(alloc: Global, segments: &[Arc<Segment>]) -> Result<Vec<Arc<Page>>, NoMemory>
-    ensures pages { IfOk result
-        (λ pages. map arc_value pages.items ≡ pages_of (map arc_value segments.now)) }
-    ensures small { IfOk result (λ pages. AreSmall (map arc_value pages.items)) }
+    ensures pages { IfOk result (λ pages. held pages.items ≡ pages_of (held segments.now)) }
+    ensures small { IfOk result (λ pages. AreSmall (held pages.items)) }
 {
     let mut pages = Vec::with_capacity(alloc, pages_len(segments))?;
     for segment in segments {

@@ -1,7 +1,7 @@
 //! Shared values in several lists.
 
-ghost use Rattle.std.specs.Prelude.{◌≡◌, ◌++◌, map, OnOk, OnErr};
-ghost use Rattle.std.specs.Arc.{arc_value};
+ghost use Rattle.std.specs.Prelude.{◌≡◌, ◌++◌, OnOk, OnErr};
+ghost use Rattle.gopher_page.specs.Page.{held};
 
 use gopher_bytes::NoMemory;
 use std::sync::Arc;
@@ -10,8 +10,7 @@ use std::sync::Arc;
 ///
 /// If out of memory, the list stays unchanged.
 pub fn share<T: Drop>(items: &[Arc<T>], list: &mut Vec<Arc<T>>) -> Result<(), NoMemory>
-    ensures shared { OnOk result
-        (map arc_value list.new.items ≡ map arc_value list.old.items ++ map arc_value items.now) }
+    ensures shared { OnOk result (held list.new.items ≡ held list.old.items ++ held items.now) }
     ensures refused { OnErr result (list.new.items ≡ list.old.items) }
 {
     list.extend_from_slice(items)?;

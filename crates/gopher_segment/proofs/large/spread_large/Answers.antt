@@ -3,7 +3,7 @@ use Rattle.std.proofs.lemmas.List.{length-map, length-set, drop_more, drop_all}
 use Rattle.std.specs.Arc.{arc_value}
 use Rattle.gopher_page.specs.Counts.{count_meant}
 use Rattle.gopher_page.specs.Page.{PageData}
-use Rattle.gopher_segment.specs.Large.{large_from, pages_in_table}
+use Rattle.gopher_segment.specs.Large.{large_from, table_pages}
 use Rattle.gopher_segment.specs.Segment.{meant_counts}
 use Rattle.gopher_segment.proofs.LargeLemmas.{large_within, written_from, length_in_table, written}
 use Rattle.gopher_segment.proofs.large.spread_large.Goals as goal
@@ -14,7 +14,7 @@ loop-at-init c =
     let counted : PageData → ℕ = λ page. count_meant c.args.is_prefix c.args.sought.now page.counts in
     let value : ℕ → ℕ = λ at. get_or (map counted pages) at 0 in
     record {
-      each = ap length c.requires.cells ∙ length-map (pages_in_table pages) counted ∙ length_in_table pages ∙ length-map c.args.pages.now arc_value;
+      each = ap length c.requires.cells ∙ length-map (table_pages pages) counted ∙ length_in_table pages ∙ length-map c.args.pages.now arc_value;
       rest =
           (λ i. written value (c.requires.large i) (c.requires.cells i))
           ∙ written_from value counted [] 0 pages refl (λ k within. ap value (omega arith));

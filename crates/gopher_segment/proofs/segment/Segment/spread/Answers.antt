@@ -3,7 +3,7 @@ use Rattle.std.proofs.lemmas.List.{length-map, length-replicate, get_or-replicat
 use Rattle.std.specs.Arc.{arc_value}
 use Rattle.gopher_page.specs.Counts.{is_meant, count_where, count_meant}
 use Rattle.gopher_page.specs.Page.{PageData}
-use Rattle.gopher_segment.specs.Large.{pages_in_table}
+use Rattle.gopher_segment.specs.Large.{table_pages}
 use Rattle.gopher_segment.specs.Postings.{AreWithin, count_in}
 use Rattle.gopher_segment.specs.Segment.{SegmentData, meant_counts}
 use Rattle.gopher_segment.proofs.CountLemmas.{counts_of_page, counts_few, within_pages}
@@ -16,7 +16,7 @@ zero_at cells n k is within =
     ap (λ l. get_or l k 0) is ∙ get_or-replicate n k 0 0 inside
 
 -- a cell for each page of the table
-cells_long : (cells : List ℕ) (segment : SegmentData) (own : List PageData) → cells ≡ replicate (length segment.pages) 0 → own ≡ segment.pages → length cells ≡ length (pages_in_table own)
+cells_long : (cells : List ℕ) (segment : SegmentData) (own : List PageData) → cells ≡ replicate (length segment.pages) 0 → own ≡ segment.pages → length cells ≡ length (table_pages own)
 cells_long cells segment own is same = ap length is ∙ length-replicate {A = ℕ} (length segment.pages) 0 ∙ ap length (sym same) ∙ sym (length_in_table own)
 
 pub add_to-requires-clause-within : goal.add_to-requires-clause-within
@@ -24,20 +24,20 @@ add_to-requires-clause-within c =
     let own : List PageData = map arc_value c.self.inside.pages.items in
     let long = cells_long c.args.cells.now c.args.self.now own c.requires (ap (λ (s : SegmentData). s.pages) c.self.view_is) in
     subst (AreWithin c.self.inside.first (length c.args.cells.now)) (sym c.find.ensures)
-    (within_pages c.self.inside.first (pages_in_table own) c.self.inside.table c.self.invariant.0.table.tell (is_meant c.args.is_prefix c.args.sought.now) (length c.args.cells.now) long)
+    (within_pages c.self.inside.first (table_pages own) c.self.inside.table c.self.invariant.0.table.tell (is_meant c.args.is_prefix c.args.sought.now) (length c.args.cells.now) long)
 
 pub add_to-requires-clause-room : goal.add_to-requires-clause-room
 add_to-requires-clause-room c = λ k within.
     let own : List PageData = map arc_value c.self.inside.pages.items in
     let test = is_meant c.args.is_prefix c.args.sought.now in
     let long = cells_long c.args.cells.now c.args.self.now own c.requires (ap (λ (s : SegmentData). s.pages) c.self.view_is) in
-    let inside : k < length (pages_in_table own) = omega (arith, within, long) in
+    let inside : k < length (table_pages own) = omega (arith, within, long) in
     omega (
       arith,
       zero_at c.args.cells.now (length c.args.self.now.pages) k c.requires within,
       ap (count_in (c.self.inside.first + k)) c.find.ensures,
-      counts_of_page c.self.inside.first (pages_in_table own) c.self.inside.table c.self.invariant.0.table.tell test k inside,
-      counts_few test (pages_in_table own) (small_in_table own c.self.invariant.0.small) k 0 inside,
+      counts_of_page c.self.inside.first (table_pages own) c.self.inside.table c.self.invariant.0.table.tell test k inside,
+      counts_few test (table_pages own) (small_in_table own c.self.invariant.0.small) k 0 inside,
     )
 
 pub spread_large-requires-clause-cells : goal.spread_large-requires-clause-cells
@@ -45,17 +45,17 @@ unfolding count_meant
 spread_large-requires-clause-cells c =
     let own : List PageData = map arc_value c.self.inside.pages.items in
     let test = is_meant c.args.is_prefix c.args.sought.now in
-    let counts : List ℕ = map (λ page. count_where test page.counts) (pages_in_table own) in
+    let counts : List ℕ = map (λ page. count_where test page.counts) (table_pages own) in
     let long = cells_long c.args.cells.now c.args.self.now own c.requires (ap (λ (s : SegmentData). s.pages) c.self.view_is) in
-    let each : length c.add_to.new.cells ≡ length counts = omega (arith, long, length-map (pages_in_table own) (λ (page : PageData). count_where test page.counts)) in
+    let each : length c.add_to.new.cells ≡ length counts = omega (arith, long, length-map (table_pages own) (λ (page : PageData). count_where test page.counts)) in
     ext_get_or 0 c.add_to.new.cells counts each
     (λ k within.
     let before : k < length c.args.cells.now = omega arith in
     c.add_to.ensures k before
     ∙ omega (arith, zero_at c.args.cells.now (length c.args.self.now.pages) k c.requires before)
     ∙ ap (count_in (c.self.inside.first + k)) c.find.ensures
-    ∙ counts_of_page c.self.inside.first (pages_in_table own) c.self.inside.table c.self.invariant.0.table.tell test k (omega (arith, before, long)))
-    ∙ ap (λ l. map (λ page. count_where test page.counts) (pages_in_table (map arc_value l))) (sym c.deref.ensures.value)
+    ∙ counts_of_page c.self.inside.first (table_pages own) c.self.inside.table c.self.invariant.0.table.tell test k (omega (arith, before, long)))
+    ∙ ap (λ l. map (λ page. count_where test page.counts) (table_pages (map arc_value l))) (sym c.deref.ensures.value)
 
 pub returns-clause-few : goal.returns-clause-few
 unfolding count_meant
