@@ -19,7 +19,7 @@ use Rattle.gopher_page.specs.Query.{TermData, matches, score}
 use Rattle.gopher_page.specs.Counts.{count_meant}
 use Rattle.gopher_page.proofs.SortedInserts.{sorted_inserts, all_after}
 use Rattle.gopher_index.specs.declared.hit.Hit.{Hit}
-use Rattle.gopher_index.specs.Answer.{rank_cmp, hits_among, ranked, answer_of, occurrence_of, occurrences_among, occurrences_of, occurrence_cmp, AreOccurrences}
+use Rattle.gopher_index.specs.Answer.{rank_cmp, hits_among, ranked, answer_of, occurrence_of, occurring, occurrences_of, occurrence_cmp, AreOccurrences}
 use Rattle.gopher_catalogue.specs.Closure.{IsOrdered}
 use Rattle.gopher_catalogue.proofs.SortedLists.{contains_here, contains_later, contains_none, contains_cases, All-inserts, contains_inserts, sorted_one}
 
@@ -151,12 +151,12 @@ module _ (word : List ℕ) (pages : List PageData) (once : IsOnePerPlace (Contai
   occurrences_tied : (a b : PageData) → Contains pages a → Contains pages b → by_place (occurrence_at word a) (occurrence_at word b) ≡ Equal → a ≡ b
   occurrences_tied a b has has' e = once a b has has' (place_tied a.place b.place e)
 
-  pub occurrences_ordered : IsOrdered by_place (occurrences_among word pages) (occurrences_of pages word)
-  unfolding occurrences_of occurrences_among
+  pub occurrences_ordered : IsOrdered by_place (occurring word pages) (occurrences_of pages word)
+  unfolding occurrences_of occurring
   occurrences_ordered = ordered_shown by_place_total (has_word word) (occurrence_at word) pages occurrences_tied
 
   pub occurrences_same : (others : List PageData) → ((page : PageData) → Contains pages page ↔ Contains others page) → occurrences_of pages word ≡ occurrences_of others word
-  unfolding occurrences_of occurrences_among
+  unfolding occurrences_of occurring
   occurrences_same others same = inserted_same by_place_total (has_word word) (occurrence_at word) pages others same occurrences_tied
 
 -- ---- occurrences that were sorted
@@ -213,9 +213,9 @@ strictly_sorted (a ∷ b ∷ list) sorted distinct' =
 
 -- the occurrences in pages of distinct places, sorted, are those of the pages
 pub occurrences_are : (pages : List PageData) (word : List ℕ) (list : List Occurrence) → IsOnePerPlace (Contains pages) → IsDistinct of_same_place pages → AreOccurrences pages word list → list ≡ occurrences_of pages word
-unfolding occurrences_among
+unfolding occurring
 occurrences_are pages word list once distinct' are =
-    let all : List Occurrence = occurrences_among word pages in
+    let all : List Occurrence = occurring word pages in
     ordered_one by_place_total all all list (occurrences_of pages word) (λ o. (λ has. has, λ has. has))
     (record {
       members = λ o. (Contains-permutation list all o (IsPermutation-sym all list are.permutation), Contains-permutation all list o are.permutation);

@@ -10,7 +10,7 @@ use Rattle.gopher_item.specs.Scope.{ScopeData, IsAllowed}
 use Rattle.gopher_page.specs.Page.{PageData, page_of}
 use Rattle.gopher_page.specs.Query.{TermData}
 use Rattle.gopher_index.specs.declared.hit.Hit.{Hit}
-use Rattle.gopher_index.specs.Answer.{rank_cmp, hits_among, answer_of, occurrences_among, occurrences_of}
+use Rattle.gopher_index.specs.Answer.{rank_cmp, hits_among, answer_of, occurring, occurrences_of}
 use Rattle.gopher_catalogue.specs.declared.event.Why.{Why}
 use Rattle.gopher_catalogue.specs.Event.{OpeningData, EventData, Opened, Found, Failed}
 use Rattle.gopher_catalogue.specs.Frontier.{is_find_of, is_failure_of, known, dropped, numbers, waiting, out, done}
@@ -201,7 +201,7 @@ AnswersAreOfPagesFound =
     ((query : List TermData) → (all : List Hit) × IsOrdered rank_cmp (hits_among query pages) all
     × (answer_of pages query ≡ take 50 all))
     × ((word : List ℕ) → IsOrdered (on (λ occurrence. occurrence.0) place_cmp)
-    (occurrences_among word pages) (occurrences_of pages word))
+    (occurring word pages) (occurrences_of pages word))
 
 -- these hits, and these occurrences, are the final ones once the record is complete
 abbrev pub IsFinalOnceComplete : List EventData → List TermData → List Hit → Type 0

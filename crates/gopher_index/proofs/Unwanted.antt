@@ -10,7 +10,7 @@ use Rattle.gopher_segment.proofs.Pieces.{count_in-run, run_within}
 use Rattle.gopher_segment.specs.Segment.{meant_counts}
 use Rattle.gopher_segment.specs.declared.postings.Postings.{Postings}
 use Rattle.gopher_index.specs.Plan.{term_counts, zipped, verdict_by}
-use Rattle.gopher_index.specs.Joined.{IsUnwantedList, RaisesEach, posted, posted_count}
+use Rattle.gopher_index.specs.Joined.{IsUnwantedList, Raises, posted, posted_count}
 use Rattle.gopher_index.specs.declared.plan.Group.{Group}
 use Rattle.gopher_index.proofs.PostingLemmas.{meant_is_term}
 use Rattle.gopher_index.proofs.Zipping.{zipped_each, zipped_idle}
@@ -61,7 +61,7 @@ module _ (group : Group) (pages : List PageData) (list : Postings) (is : IsUnwan
       (subst (λ n. AreWithin list.first n (run_of list.first counts)) (counts_long ∙ sym long) (run_within list.first counts))
 
   -- if the postings raise verdicts, the group does
-  pub listed_raises : (verdicts raised : List ℕ) → length verdicts ≡ length pages → length raised ≡ length verdicts → RaisesEach group.holds (posted_count list) verdicts raised
+  pub listed_raises : (verdicts raised : List ℕ) → length verdicts ≡ length pages → length raised ≡ length verdicts → Raises group.holds (posted_count list) verdicts raised
       → raised ≡ zipped (λ verdict count. max verdict (verdict_by group count)) verdicts counts
   listed_raises verdicts raised long same raises =
       zipped_each (λ verdict count. max verdict (verdict_by group count)) verdicts raised counts 0 (counts_long ∙ sym long) same

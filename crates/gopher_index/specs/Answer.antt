@@ -52,14 +52,14 @@ abbrev pub occurrence_of : List ℕ → PageData → List (PlaceData × ℕ)
 occurrence_of word page = counted_place page (count_meant false word page.counts)
 
 -- the occurrences in all pages that contain the word, in the order of the pages
-unfoldable pub occurrences_among : List ℕ → List PageData → List (PlaceData × ℕ)
-occurrences_among word pages = flat_map (occurrence_of word) pages
+unfoldable pub occurring : List ℕ → List PageData → List (PlaceData × ℕ)
+occurring word pages = flat_map (occurrence_of word) pages
 
 -- the occurrences of a word: the places of the pages that contain it, each once and in place order,
 -- with the number of times
 unfoldable pub occurrences_of : List PageData → List ℕ → List (PlaceData × ℕ)
 occurrences_of pages word =
-    fold (insert_key (on (λ occurrence. occurrence.0) place_cmp)) [] (occurrences_among word pages)
+    fold (insert_key (on (λ occurrence. occurrence.0) place_cmp)) [] (occurring word pages)
 
 -- place order, and for equal places the order of counts
 abbrev pub occurrence_cmp : (PlaceData × ℕ) → (PlaceData × ℕ) → Ordering
@@ -69,7 +69,7 @@ occurrence_cmp =
 -- the list contains these occurrences in that order
 pub record AreOccurrences (pages : List PageData) (word : List ℕ) (list : List (PlaceData × ℕ))
     : Type 0 where
-  pub permutation : IsPermutation (occurrences_among word pages) list
+  pub permutation : IsPermutation (occurring word pages) list
   pub sorted : IsSorted occurrence_cmp list
 
 -- if these are the counts of a word in the pages, its occurrences in them are appended to those
@@ -78,4 +78,4 @@ abbrev pub FindsCounted : {T E Z : Type 0} → List (Arc PageData Z) → List �
     → List (PlaceData × ℕ) → Result T E → Type 0
 FindsCounted pages counts old new result =
     (word : List ℕ) → counts ≡ meant_counts false word (map arc_value pages)
-    → OnOk result (new ≡ old ++ occurrences_among word (map arc_value pages))
+    → OnOk result (new ≡ old ++ occurring word (map arc_value pages))

@@ -24,8 +24,8 @@ abbrev pub posted_count : Postings → ℕ → ℕ
 posted_count postings index = count_in (postings.first + index) (posted postings)
 
 -- the verdict of each page with a count is raised, and the others are what they were
-abbrev pub RaisesEach : ℕ → (ℕ → ℕ) → List ℕ → List ℕ → Type 0
-RaisesEach holds count_at old new =
+abbrev pub Raises : ℕ → (ℕ → ℕ) → List ℕ → List ℕ → Type 0
+Raises holds count_at old new =
     (k : ℕ) → k < length old → slice_index_or new k 0
     ≡ max (slice_index_or old k 0) (if nat_lt 0 (count_at k) then holds else 0)
 

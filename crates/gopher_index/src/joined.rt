@@ -3,7 +3,7 @@
 ghost use Rattle.std.specs.Prelude.{◌≡◌, ◌+◌, ◌*◌, ◌^◌, ◌≤◌, ◌<◌, ◌==◌, ◌∷◌, [], length, map, replicate, if◌then◌else◌, IfSome, OnOk};
 ghost use Rattle.std.specs.List.{All};
 ghost use Rattle.gopher_index.specs.Plan.{RisesAtMost, zipped, AreGroupCells, wanted_in};
-ghost use Rattle.gopher_index.specs.Joined.{AreBegun, AreJoined, AddsOne, IsUnwantedList, JoinsTo, RaisesEach, posted, posted_count, raised_verdicts};
+ghost use Rattle.gopher_index.specs.Joined.{AreBegun, AreJoined, AddsOne, IsUnwantedList, JoinsTo, Raises, posted, posted_count, raised_verdicts};
 ghost use Rattle.gopher_segment.specs.Postings.{AreWithin};
 
 use crate::part::Part;
@@ -119,8 +119,7 @@ fn unwanted_list<'a>(part: &'a Part, group: &Group) -> Option<Postings<'a>>
 fn raise_page(holds: u16, verdicts: &mut [u16], first: usize, page: usize, count: u8)
     requires from { first ≤ page }
     requires within { page < first + length verdicts.old }
-    ensures { RaisesEach holds (λ k. if page == first + k then count else 0) verdicts.old
-        verdicts.new }
+    ensures { Raises holds (λ k. if page == first + k then count else 0) verdicts.old verdicts.new }
 {
     let index = page - first;
     verdicts[index] = higher(verdicts[index], verdict_for(holds, 0, u32::from(count)));
@@ -130,7 +129,7 @@ fn raise_page(holds: u16, verdicts: &mut [u16], first: usize, page: usize, count
 fn raise_listed(postings: &Postings, holds: u16, verdicts: &mut [u16])
     requires beside { length postings.now.counts.now ≡ length postings.now.numbers.now }
     requires within { AreWithin postings.now.first (length verdicts.old) (posted postings.now) }
-    ensures { RaisesEach holds (posted_count postings.now) verdicts.old verdicts.new }
+    ensures { Raises holds (posted_count postings.now) verdicts.old verdicts.new }
 {
     for (index, number) in postings.numbers.iter().enumerate() {
         raise_page(

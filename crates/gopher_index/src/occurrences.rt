@@ -1,7 +1,7 @@
 //! Listing the pages that contain a word.
 
 ghost use Rattle.std.specs.Prelude.{◌≡◌, ◌++◌, length, IfOk, OnOk};
-ghost use Rattle.gopher_index.specs.Answer.{occurrences_among, AreOccurrences, FindsCounted};
+ghost use Rattle.gopher_index.specs.Answer.{occurring, AreOccurrences, FindsCounted};
 ghost use Rattle.gopher_segment.specs.Segment.{pages_of};
 
 use crate::part::Part;
@@ -30,8 +30,7 @@ fn push_part(
     word: &[u8],
     found: &mut Vec<(Place, u32)>,
 ) -> Result<(), NoMemory>
-    ensures { OnOk result
-        (found.new.items ≡ found.old.items ++ occurrences_among word.now part.now.pages) }
+    ensures { OnOk result (found.new.items ≡ found.old.items ++ occurring word.now part.now.pages) }
 {
     let pages = part.pages();
     let mut counts = vec![in alloc; 0; pages.len()]?;

@@ -2,7 +2,7 @@ use Rattle.std.proofs.Common.{false, ◌++◌, get_or, map, take, sym, ap, ◌�
 use Rattle.std.specs.Arc.{arc_value}
 use Rattle.gopher_page.specs.Counts.{count_meant}
 use Rattle.gopher_page.specs.Page.{PageData}
-use Rattle.gopher_index.specs.Answer.{occurrences_among}
+use Rattle.gopher_index.specs.Answer.{occurring}
 use Rattle.gopher_index.proofs.Found.{found_so_far, found_page}
 use Rattle.gopher_index.proofs.Lists.{made-at, map-next}
 use Rattle.gopher_index.proofs.occurrences.push_counted.Goals as goal
@@ -15,5 +15,5 @@ loop-index-preserved c = λ word counted.
     found_page word c.args.found.now.items c.loop-index.found.items c.push_page.new.found.items (map arc_value (take c.loop-index.index c.args.pages.now)) (arc_value c.index-pages-index.result) c.deref.result.now (get_or c.args.counts.now c.loop-index.index 0)
     c.deref.ensures
     (made-at (λ (page : PageData). count_meant false word page.counts) arc_value c.args.pages.now c.args.counts.now c.loop-index.index c.index-pages-index.result 0 (omega arith) c.index-pages-index.is counted)
-    (c.loop-index.invariant word counted) c.in_ok-push_page.ensures.added
-    ∙ ap (λ pages. c.args.found.now.items ++ occurrences_among word pages) (sym (map-next arc_value c.args.pages.now c.loop-index.index c.index-pages-index.result (omega arith) c.index-pages-index.is))
+    (c.loop-index.invariant word counted) c.in_ok-push_page.ensures.adds
+    ∙ ap (λ pages. c.args.found.now.items ++ occurring word pages) (sym (map-next arc_value c.args.pages.now c.loop-index.index c.index-pages-index.result (omega arith) c.index-pages-index.is))
