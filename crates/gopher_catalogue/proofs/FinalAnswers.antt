@@ -1,5 +1,5 @@
 -- A finished crawl gives the final answers.
-use Rattle.std.proofs.Common.{◌≡◌, ℕ, List, ◌∷◌, get_or, Some, ◌↔◌, refl, sym, ◌∙◌, ap, subst, arith, Result, Ok, Err, IfOk}
+use Rattle.std.proofs.Common.{◌≡◌, ℕ, true, false, cond, eqb, List, ◌∷◌, get_or, Some, ◌↔◌, refl, sym, ◌∙◌, ap, subst, arith, Result, Ok, Err, IfOk}
 use Rattle.gopher_item.specs.Scope.{ScopeData}
 use Rattle.std.specs.List.{slice_get, Contains, IsDistinct}
 use Rattle.std.proofs.lemmas.Bool.{false_from_ne_true}
@@ -7,7 +7,7 @@ use Rattle.std.proofs.lemmas.Map.Keys.{IsDistinct-from_apart}
 use Rattle.std.proofs.lemmas.Option.{slice_get-get_or, same_Some}
 use Rattle.gopher_item.specs.Place.{PlaceData}
 use Rattle.gopher_item.proofs.PlaceLemmas.{same_place-true}
-use Rattle.gopher_page.specs.Page.{PageData, page_of}
+use Rattle.gopher_page.specs.Page.{PageData, page_of, menu_page, text_page}
 use Rattle.gopher_catalogue.specs.Event.{OpeningData, EventData, Opened}
 use Rattle.gopher_catalogue.specs.Legal.{IsLegal}
 use Rattle.gopher_catalogue.specs.Pages.{pages_found}
@@ -44,11 +44,18 @@ pages_distinct opening events legal =
     (same_place-true (get_or (pages_found events) i d).place (get_or (pages_found events) j d).place same) in
     omega arith))
 
+page_of-place : (scope : ScopeData) (place : PlaceData) (bytes : List ℕ) → (page_of scope place bytes).place ≡ place
+unfolding page_of
+page_of-place scope place bytes =
+    elim (eqb place.kind 49) as (λ b. (cond b (menu_page scope place bytes) (text_page place bytes)).place ≡ place) [
+      | true ↦ refl
+      | false ↦ refl
+    ]
+
 -- two pages of one reachable place are equal
 reached_once : (scope : ScopeData) (seeds : List PlaceData) (table : OutcomeTable) → IsOnePerPlace (IsReachedPage scope seeds table)
-unfolding page_of
 reached_once scope seeds table a b one other same =
-    let place : one.place ≡ other.place = sym (ap (λ (p : PageData). p.place) one.is_page) ∙ same ∙ ap (λ (p : PageData). p.place) other.is_page in
+    let place : one.place ≡ other.place = sym (ap (λ (p : PageData). p.place) one.is_page ∙ page_of-place scope one.place one.bytes) ∙ same ∙ ap (λ (p : PageData). p.place) other.is_page ∙ page_of-place scope other.place other.bytes in
     let fetched : Some (Fetched one.bytes) ≡ Some (Fetched other.bytes) = sym one.is_fetched ∙ ap table place ∙ other.is_fetched in
     let bytes : one.bytes ≡ other.bytes = cc in
     one.is_page ∙ (λ i. page_of scope (place i) (bytes i)) ∙ sym other.is_page
