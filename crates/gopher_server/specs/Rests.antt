@@ -1,10 +1,6 @@
 -- How long the thread that writes rests while its file takes nothing.
-use Rattle.std.specs.Prelude.{ℕ, ◌+◌, ◌*◌, ◌&&◌, ◌==◌, nat_le, Bool, min, Option, None, Some, if◌then◌else◌}
+use Rattle.std.specs.Prelude.{◌+◌, ◌*◌, ◌&&◌, ◌==◌, nat_le, Bool, min, if◌then◌else◌}
 use Rattle.gopher_server.specs.declared.logging.rests.Rests.{Rests}
-
--- the first rest takes 1 ms
-abbrev pub first_rest : Rests
-first_rest = record { next = 1; tries = 0 }
 
 -- whether the next rest is a longest one, of 100 ms, with no batch to come
 abbrev pub is_last : Bool → Rests → Bool
@@ -13,9 +9,6 @@ is_last is_closed rests = is_closed && (rests.next == 100)
 -- whether the file took nothing after 10 of these
 abbrev pub gives_up : Bool → Rests → Bool
 gives_up is_closed rests = is_last is_closed rests && nat_le 10 rests.tries
-
-abbrev pub next_rest : Bool → Rests → Option ℕ
-next_rest is_closed rests = if gives_up is_closed rests then None else Some rests.next
 
 -- each rest is twice as long as the one before, and at most 100 ms
 abbrev pub rested : Bool → Rests → Rests

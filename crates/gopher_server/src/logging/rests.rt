@@ -1,7 +1,7 @@
 //! How long the thread that writes rests while its file takes nothing.
 
-ghost use Rattle.std.specs.Prelude.{◌≡◌};
-ghost use Rattle.gopher_server.specs.Rests.{first_rest, next_rest, rested};
+ghost use Rattle.std.specs.Prelude.{◌≡◌, None, Some, if◌then◌else◌};
+ghost use Rattle.gopher_server.specs.Rests.{gives_up, rested};
 
 // The longest rest, in milliseconds.
 const MAX_REST: u64 = 100;
@@ -20,7 +20,7 @@ pub(crate) struct Rests {
 impl Rests {
     /// Begins with a rest of 1 ms.
     pub(crate) fn new() -> Rests
-        ensures { result ≡ first_rest }
+        ensures { result ≡ record { next = 1; tries = 0 } }
     {
         Rests { next: 1, tries: 0 }
     }
@@ -28,7 +28,7 @@ impl Rests {
     /// Returns how many milliseconds to rest, or `None` to give up. `is_closed` says whether no
     /// more batches come.
     pub(crate) fn next(&mut self, is_closed: bool) -> Option<u64>
-        ensures rest { result ≡ next_rest is_closed self.old }
+        ensures rest { result ≡ (if gives_up is_closed self.old then None else Some self.old.next) }
         ensures after { self.new ≡ rested is_closed self.old }
     {
         let Rests { next, tries } = *self;
