@@ -26,9 +26,6 @@ is_search selector = pointwise nat_eq selector (codes "/search")
 abbrev pub bad_request_bytes : HomeData → List ℕ
 bad_request_bytes home = error_bytes (codes "Bad request") home
 
-abbrev pub no_words_bytes : HomeData → List ℕ
-no_words_bytes home = error_bytes (codes "No words") home
-
 abbrev pub no_catalogue_bytes : HomeData → List ℕ
 no_catalogue_bytes home = error_bytes (codes "No catalogue") home
 
@@ -44,7 +41,7 @@ IsQueryFor terms query =
 
 -- the reply to a search for these terms; `None` if the published version couldn't be entered
 abbrev pub search_reply : HomeData → List TermData → Option (List Hit) → List ℕ
-search_reply home [] outcome = no_words_bytes home
+search_reply home [] outcome = error_bytes (codes "No words") home
 search_reply home (term ∷ terms) None = no_catalogue_bytes home
 search_reply home (term ∷ terms) (Some hits) = hits_bytes hits
 

@@ -79,12 +79,9 @@ folder_reply files home folder = menu_bytes (folder_menu files home folder (menu
 abbrev pub file_reply : ℕ → List ℕ → List ℕ
 file_reply kind bytes = if kind == 48 then text_bytes (lines_of bytes) else bytes
 
--- a line of type `3` (51; RFC 1436, section 3.8), whose text a client shows as an error
-abbrev pub error_line : List ℕ → HomeData → MenuLineData
-error_line text home = menu_line_of 51 text [] home.host home.port
-
+-- a menu of one line of type `3` (51; RFC 1436, section 3.8), whose text a client shows as an error
 abbrev pub error_bytes : List ℕ → HomeData → List ℕ
-error_bytes text home = menu_bytes (error_line text home ∷ [])
+error_bytes text home = menu_bytes (menu_line_of 51 text [] home.host home.port ∷ [])
 
 abbrev pub not_found_bytes : HomeData → List ℕ
 not_found_bytes home = error_bytes (codes "Not found") home
