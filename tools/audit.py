@@ -20,7 +20,7 @@ ROOT = pathlib.Path(__file__).resolve().parent.parent
 CRATES = {path.parent.name for path in ROOT.glob("crates/*/src")}
 WORD = re.compile(r"(?<![\w.'])[^\W\d][\w'-]*")
 HEAD = r"(?:(?:abbrev|unfoldable)(?: pub)?|(?:pub )?(?:record|data)) ([^\s:({]+)"
-DEFINITION = re.compile(rf"(?ms)^(?:--(?! ----)[^\n]*\n)*^{HEAD}.*?(?=^\n|^--|^use |\Z)")
+DEFINITION = re.compile(rf"(?ms)^(?:(?:  )?--(?! ----)[^\n]*\n)*^(?:  )?{HEAD}.*?(?=^\n|^(?:  )?--|^use |^module |\Z)")
 USE = re.compile(r"use (Rattle|mathlib)\.([\w.]+?)(?:\.\{([^}]*)\}| as (\w+))")
 RUST_USE = re.compile(r"(?m)^use ((?:\w+::)+)(\{[^}]*\}|\w+)")
 TYPE = re.compile(r"(?ms)^(?:pub(?:\(crate\))? )?(struct|enum|trait) (\w+)[^\n]*?(?:;$|\{\}$|\{$.*?^\}|$.*?^\})")

@@ -34,7 +34,7 @@ class Audit(unittest.TestCase):
 
     def test_every_definition_is_read(self):
         for path in audit.ROOT.glob("crates/*/specs/*.antt"):
-            begun = re.findall(r"(?m)^(?:abbrev|unfoldable|(?:pub )?record|(?:pub )?data) ", path.read_text())
+            begun = re.findall(r"(?m)^(?:abbrev|unfoldable|  abbrev|(?:  )?pub record|record|(?:pub )?data) ", path.read_text())
             self.assertEqual(len(audit.definitions(path)), len(begun), str(path))
 
     def test_every_word_of_this_repository_is_found(self):

@@ -23,7 +23,8 @@ rule_fault host port prefix =
 abbrev pub rule_of : List ℕ → ℕ → List ℕ → RuleData
 rule_of host port prefix = record { host = map lower_case host; port = port; prefix = prefix }
 
--- making the rule of these parts fails with their first fault, returns the rule, or is out of memory
+-- making the rule of these parts fails with their first fault, returns the rule, or is out of
+-- memory
 abbrev pub MakesRule : List ℕ → ℕ → List ℕ → Result RuleData ItemFault → Type 0
 MakesRule host port prefix = Makes (rule_fault host port prefix) (rule_of host port prefix)
 

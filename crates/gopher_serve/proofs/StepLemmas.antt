@@ -6,7 +6,7 @@ use Rattle.std.proofs.KnownBytes.{Appends-nil, Appends-trans, Appends-kept, Cons
 use Rattle.std.proofs.Math.Seq.{take-add}
 use Rattle.gopher_text.specs.Watched.{WatchedData}
 use Rattle.gopher_serve.specs.Leads.{Leads}
-use Rattle.gopher_serve.specs.Talk.{Talk, Gathers, Asks, IsTooLong, LacksMemory, Responds, Hears, HasHeard, HasReply, is_known, said_of, talk_of}
+use Rattle.gopher_serve.specs.Talk.{Talk, Gathers, Asks, IsTooLong, LacksMemory, Responds, Hears, HasHeard, HoldsReply, is_known, spoken_of, talk_of}
 use Rattle.gopher_serve.specs.Advance.{HearsPiece, HearsEnd, HasTaken, HearsOn, HearsOnce, AsksOnce, SaysOnce, IsGiven, GivesOn, SaysOn}
 use Rattle.gopher_serve.specs.declared.advancing.Progress.{Progress}
 use Rattle.gopher_serve.proofs.LeadsLemmas.{leads_stays, leads_joins}
@@ -24,7 +24,7 @@ talk_cases ended taken = by (is_known ended taken) refl (nat_le (length (first_l
 
 -- the state agrees with what came in, and there is no reply yet
 abbrev pub IsBefore : Bool → List ℕ → Talk → Type 0
-IsBefore ended taken talk = HasHeard ended taken talk × (said_of talk ≡ []) × ((line reply : List ℕ) → HasReply talk line reply → ⊥)
+IsBefore ended taken talk = HasHeard ended taken talk × (spoken_of talk ≡ []) × ((line reply : List ℕ) → HoldsReply talk line reply → ⊥)
 
 before_at : (ended : Bool) (taken : List ℕ) (talk : Talk) → talk ≡ talk_of ended taken → IsBefore ended taken talk
 before_at ended taken talk is = by (talk_cases ended taken)
@@ -117,7 +117,7 @@ module _ {R A W : Type 0} (remaining : R → Option (List ℕ)) (gives : A → A
 
   -- the reply stays, or none comes
   stays : (leads_to : A → A → Type 0) (a b : A) (talk next : Talk) → next ≡ talk → GivesOn gives leads_to talk next a b
-  stays leads_to a b talk next same line reply has = inl (subst (λ (t : Talk). HasReply t line reply) same has)
+  stays leads_to a b talk next same line reply has = inl (subst (λ (t : Talk). HoldsReply t line reply) same has)
 
   comes_none : (leads_to : A → A → Type 0) (a b : A) (talk next : Talk) (ended : Bool) (taken : List ℕ) → IsBefore ended taken next → GivesOn gives leads_to talk next a b
   comes_none leads_to a b talk next ended taken before line reply has = absurd (before.2 line reply has)
@@ -130,7 +130,7 @@ module _ {R A W : Type 0} (remaining : R → Option (List ℕ)) (gives : A → A
       comes_none leads_to a b (Gathers bytes) next true (bytes ++ []) (before_at true (bytes ++ []) next end.hears)
   gives_on leads_to (Gathers bytes) next had left a b before after turn (inr (inr (still, how)), answers, writer) = stays leads_to a b (Gathers bytes) next still.talk
   gives_on leads_to (Asks line) next had left a b before after turn (reader, inl (reply, steps, gave, is, how), writer) = λ asked given has.
-      let same : HasReply (Responds line reply steps 0) asked given = subst (λ (t : Talk). HasReply t asked given) is has in
+      let same : HoldsReply (Responds line reply steps 0) asked given = subst (λ (t : Talk). HoldsReply t asked given) is has in
       inr (rw (same.0, same.1) (record { before = a; after = b; begins = leads_stays leads_to a; given = gave; ends = leads_stays leads_to b }))
   gives_on leads_to (Asks line) next had left a b before after turn (reader, inr (same, how), writer) = stays leads_to a b (Asks line) next same
   gives_on leads_to IsTooLong next had left a b before after turn (reader, (fails, same, answers), writer) = stays leads_to a b IsTooLong next same
@@ -138,15 +138,15 @@ module _ {R A W : Type 0} (remaining : R → Option (List ℕ)) (gives : A → A
   gives_on leads_to (Responds line reply steps count) next had left a b before after turn (reader, answers, inl (same, ready, none, writer, how)) =
       stays leads_to a b (Responds line reply steps count) next same
   gives_on leads_to (Responds line reply steps count) next had left a b before after turn (reader, answers, inr (inl (some, how))) =
-      λ asked given has. inl (subst (λ (t : Talk). HasReply t asked given) some.is has)
+      λ asked given has. inl (subst (λ (t : Talk). HoldsReply t asked given) some.is has)
   gives_on leads_to (Responds line reply steps count) next had left a b before after turn (reader, answers, inr (inr (inl (some, searches, writer, how)))) =
-      λ asked given has. inl (subst (λ (t : Talk). HasReply t asked given) searches has)
+      λ asked given has. inl (subst (λ (t : Talk). HoldsReply t asked given) searches has)
   gives_on leads_to (Responds line reply steps count) next had left a b before after turn (reader, answers, inr (inr (inr (still, how)))) =
       stays leads_to a b (Responds line reply steps count) next still.talk
 
   -- nothing was written, and as much of the reply counts as sent
-  writes_none : (talk next : Talk) (before after : WatchedData W) → after ≡ before → said_of next ≡ said_of talk → SaysOn contents talk next before after
-  writes_none talk next before after writer same = ([], rw writer (Appends-nil (contents before.device)), same ∙ sym (append-nil (said_of talk)))
+  writes_none : (talk next : Talk) (before after : WatchedData W) → after ≡ before → spoken_of next ≡ spoken_of talk → SaysOn contents talk next before after
+  writes_none talk next before after writer same = ([], rw writer (Appends-nil (contents before.device)), same ∙ sym (append-nil (spoken_of talk)))
 
   pub says_on : (talk next : Talk) (had left : WatchedData R) (a b : A) (before after : WatchedData W) (turn : Progress)
       → Steps talk next had left a b before after turn → SaysOn contents talk next before after
@@ -154,38 +154,38 @@ module _ {R A W : Type 0} (remaining : R → Option (List ℕ)) (gives : A → A
       writes_none (Gathers bytes) next before after writer ((heard_piece bytes piece.piece next piece.hears).1)
   says_on (Gathers bytes) next had left a b before after turn (inr (inl (end, how)), answers, writer) =
       writes_none (Gathers bytes) next before after writer ((before_at true (bytes ++ []) next end.hears).1)
-  says_on (Gathers bytes) next had left a b before after turn (inr (inr (still, how)), answers, writer) = writes_none (Gathers bytes) next before after writer (ap said_of still.talk)
-  says_on (Asks line) next had left a b before after turn (reader, inl (reply, steps, gave, is, how), writer) = writes_none (Asks line) next before after writer (ap said_of is)
-  says_on (Asks line) next had left a b before after turn (reader, inr (same, how), writer) = writes_none (Asks line) next before after writer (ap said_of same)
-  says_on IsTooLong next had left a b before after turn (reader, (fails, same, answers), writer) = writes_none IsTooLong next before after writer (ap said_of same)
-  says_on LacksMemory next had left a b before after turn (reader, (fails, same, answers), writer) = writes_none LacksMemory next before after writer (ap said_of same)
+  says_on (Gathers bytes) next had left a b before after turn (inr (inr (still, how)), answers, writer) = writes_none (Gathers bytes) next before after writer (ap spoken_of still.talk)
+  says_on (Asks line) next had left a b before after turn (reader, inl (reply, steps, gave, is, how), writer) = writes_none (Asks line) next before after writer (ap spoken_of is)
+  says_on (Asks line) next had left a b before after turn (reader, inr (same, how), writer) = writes_none (Asks line) next before after writer (ap spoken_of same)
+  says_on IsTooLong next had left a b before after turn (reader, (fails, same, answers), writer) = writes_none IsTooLong next before after writer (ap spoken_of same)
+  says_on LacksMemory next had left a b before after turn (reader, (fails, same, answers), writer) = writes_none LacksMemory next before after writer (ap spoken_of same)
   says_on (Responds line reply steps count) next had left a b before after turn (reader, answers, inl (same, ready, none, writer, how)) =
-      writes_none (Responds line reply steps count) next before after writer (ap said_of same)
+      writes_none (Responds line reply steps count) next before after writer (ap spoken_of same)
   says_on (Responds line reply steps count) next had left a b before after turn (reader, answers, inr (inl (some, how))) =
-      (take some.count (drop count reply), some.written, ap said_of some.is ∙ take-add count some.count reply)
+      (take some.count (drop count reply), some.written, ap spoken_of some.is ∙ take-add count some.count reply)
   says_on (Responds line reply steps count) next had left a b before after turn (reader, answers, inr (inr (inl (some, searches, writer, how)))) =
-      writes_none (Responds line reply steps count) next before after writer (ap said_of searches)
+      writes_none (Responds line reply steps count) next before after writer (ap spoken_of searches)
   says_on (Responds line reply steps count) next had left a b before after turn (reader, answers, inr (inr (inr (still, how)))) =
-      ([], Appends-kept _ _ _ _ (Appends-nil (contents before.device)) still.bytes, ap said_of still.talk ∙ sym (append-nil (take count reply)))
+      ([], Appends-kept _ _ _ _ (Appends-nil (contents before.device)) still.bytes, ap spoken_of still.talk ∙ sym (append-nil (take count reply)))
 
 -- ---- any number of steps
 
 pub says_stays : {W : Type 0} (contents : W → Option (List ℕ)) (talk : Talk) (writer : WatchedData W) → SaysOn contents talk talk writer writer
-says_stays contents talk writer = ([], Appends-nil (contents writer.device), sym (append-nil (said_of talk)))
+says_stays contents talk writer = ([], Appends-nil (contents writer.device), sym (append-nil (spoken_of talk)))
 
 pub says_joins : {W : Type 0} (contents : W → Option (List ℕ)) (talk next last : Talk) (w0 w1 w2 : WatchedData W)
     → SaysOn contents talk next w0 w1 → SaysOn contents next last w1 w2 → SaysOn contents talk last w0 w2
 says_joins contents talk next last w0 w1 w2 (bytes, sent, said) (more, sent_on, said_on) =
-    (bytes ++ more, Appends-trans _ _ _ _ _ sent sent_on, said_on ∙ ap (λ l. l ++ more) said ∙ append_assoc (said_of talk) bytes more)
+    (bytes ++ more, Appends-trans _ _ _ _ _ sent sent_on, said_on ∙ ap (λ l. l ++ more) said ∙ append_assoc (spoken_of talk) bytes more)
 
 pub gives_joins : {A : Type 0} (gives : A → A → List ℕ → List ℕ → Type 0) (leads_to : A → A → Type 0) (talk next last : Talk) (a b c : A)
     → Leads leads_to a b → Leads leads_to b c → GivesOn gives leads_to talk next a b → GivesOn gives leads_to next last b c → GivesOn gives leads_to talk last a c
 gives_joins gives leads_to talk next last a b c first second one more line reply has = by (more line reply has)
   where
-    since : (HasReply talk line reply) ⊎ (IsGiven gives leads_to a b line reply) → (HasReply talk line reply) ⊎ (IsGiven gives leads_to a c line reply)
+    since : (HoldsReply talk line reply) ⊎ (IsGiven gives leads_to a b line reply) → (HoldsReply talk line reply) ⊎ (IsGiven gives leads_to a c line reply)
     since (inl had) = inl had
     since (inr it) = inr (record { before = it.before; after = it.after; begins = it.begins; given = it.given; ends = leads_joins leads_to _ _ _ it.ends second })
 
-    by : (HasReply next line reply) ⊎ (IsGiven gives leads_to b c line reply) → (HasReply talk line reply) ⊎ (IsGiven gives leads_to a c line reply)
+    by : (HoldsReply next line reply) ⊎ (IsGiven gives leads_to b c line reply) → (HoldsReply talk line reply) ⊎ (IsGiven gives leads_to a c line reply)
     by (inl had) = since (one line reply had)
     by (inr it) = inr (record { before = it.before; after = it.after; begins = leads_joins leads_to _ _ _ first it.begins; given = it.given; ends = it.ends })

@@ -8,7 +8,7 @@ use Rattle.std.specs.Io.KnownBytes.{Consumes, IsAtEnd, Keeps}
 use Rattle.gopher_bytes.specs.declared.line.TheConstants.{MAX_LINE}
 use Rattle.gopher_text.specs.Watched.{WatchedData, CountsFailure, HasFailed, HasRead, HasSent}
 use Rattle.gopher_serve.specs.Leads.{Leads}
-use Rattle.gopher_serve.specs.Talk.{Talk, Gathers, Asks, IsTooLong, LacksMemory, Responds, Hears, HasHeard, HasReply, IsAnswering, OnlySearches, heard, said, said_of, sendable_of, sent_of, steps_of, unsent_of}
+use Rattle.gopher_serve.specs.Talk.{Talk, Gathers, Asks, IsTooLong, LacksMemory, Responds, Hears, HasHeard, HoldsReply, IsAnswering, OnlySearches, heard, said, spoken_of, sendable_of, sent_of, steps_of, unsent_of}
 use Rattle.gopher_serve.specs.declared.fault.ServeFault.{ServeFault}
 use Rattle.gopher_serve.specs.declared.fault.ServeFault.TheVariants.{LineTooLong, ReadFailed, TooManyTurns, WriteFailed, NoMemory}
 use Rattle.gopher_serve.specs.declared.advancing.Progress.{Progress}
@@ -80,7 +80,8 @@ module _ {A : Type 0} (gives : A → A → List ℕ → List ℕ → Type 0) whe
   AsksOnce talk new before after progress = after ≡ before
 
   -- the line was answered with this reply between two states of the answers
-  pub record IsGiven (leads_to : A → A → Type 0) (start now : A) (line reply : List ℕ) : Type 0 where
+  pub record IsGiven (leads_to : A → A → Type 0) (start now : A)
+      (line reply : List ℕ) : Type 0 where
     pub before : A
     pub after : A
     pub begins : Leads leads_to start before
@@ -90,8 +91,8 @@ module _ {A : Type 0} (gives : A → A → List ℕ → List ℕ → Type 0) whe
   -- the reply that some steps leave is the one that was there, or was given meanwhile
   abbrev pub GivesOn : (A → A → Type 0) → Talk → Talk → A → A → Type 0
   GivesOn leads_to old new before after =
-      (line reply : List ℕ) → HasReply new line reply
-      → HasReply old line reply ⊎ IsGiven leads_to before after line reply
+      (line reply : List ℕ) → HoldsReply new line reply
+      → HoldsReply old line reply ⊎ IsGiven leads_to before after line reply
 
 -- ---- the streams, before and after
 
@@ -176,14 +177,14 @@ module _ {D : Type 0} (known : D → Option (List ℕ)) where
   -- some steps wrote exactly the bytes by which the sent part of the reply is longer
   abbrev pub SaysOn : Talk → Talk → WatchedData D → WatchedData D → Type 0
   SaysOn old new before after =
-      (bytes : List ℕ) × HasSent known before after bytes × (said_of new ≡ said_of old ++ bytes)
+      (bytes : List ℕ) × HasSent known before after bytes × (spoken_of new ≡ spoken_of old ++ bytes)
 
 -- ---- the conversation
 
 -- the state of a conversation when it stops, by its progress: the conversation, and the reader and
--- the writer before and after. It never stops at a pause. It takes too many turns only if the failed
--- calls of both, the bytes that were sent, and MAX_LINE + 4 steps before the reply make at least
--- 2^64 - 1
+-- the writer before and after. It never stops at a pause. It takes too many turns only if the
+-- failed calls of both, the bytes that were sent, and MAX_LINE + 4 steps before the reply make at
+-- least 2^64 - 1
 abbrev pub Stops : {R W : Type 0} → Talk → WatchedData R → WatchedData R → WatchedData W
     → WatchedData W → Progress → Type 0
 Stops talk had left before after Done = IsAnswering talk × (unsent_of talk ≡ [])
@@ -201,5 +202,5 @@ Stops talk had left before after (Failed NoMemory) = Unit {0}
 -- a change of the conversation alone keeps what was heard, said and given
 pub record Upholds (old new : Talk) : Type 0 where
   pub heard : (ended : Bool) (taken : List ℕ) → HasHeard ended taken old → HasHeard ended taken new
-  pub said : said_of new ≡ said_of old
-  pub given : (line reply : List ℕ) → HasReply new line reply → HasReply old line reply
+  pub said : spoken_of new ≡ spoken_of old
+  pub given : (line reply : List ℕ) → HoldsReply new line reply → HoldsReply old line reply

@@ -6,20 +6,20 @@ use Rattle.gopher_text.specs.declared.fault.LineFault.TheVariants as line_fault
 use Rattle.gopher_serve.specs.declared.fault.ServeFault.{ServeFault}
 use Rattle.gopher_serve.specs.declared.fault.ServeFault.TheVariants.{LineTooLong, ReadFailed, TooManyTurns, WriteFailed, NoMemory}
 
--- exactly the first line and its end were read, also if no reply was sent, or reading it failed: the
--- reader before and after
-abbrev pub ReadsRequest : {R T : Type 0} → (R → Option (List ℕ)) → WatchedData R → WatchedData R
+-- exactly the first line and its end were read, also if no reply was sent, or reading it failed:
+-- the reader before and after
+abbrev pub HearsRequest : {R T : Type 0} → (R → Option (List ℕ)) → WatchedData R → WatchedData R
     → Result T ServeFault → Type 0
-ReadsRequest remaining old new (Err LineTooLong) =
+HearsRequest remaining old new (Err LineTooLong) =
     FailsToReadLine remaining old new line_fault.LineTooLong
-ReadsRequest remaining old new (Err ReadFailed) =
+HearsRequest remaining old new (Err ReadFailed) =
     FailsToReadLine remaining old new line_fault.ReadFailed
-ReadsRequest remaining old new (Err TooManyTurns) =
+HearsRequest remaining old new (Err TooManyTurns) =
     FailsToReadLine remaining old new line_fault.TooManyTurns
-ReadsRequest remaining old new end = ReadsLine remaining old new
+HearsRequest remaining old new end = ReadsLine remaining old new
 
--- the reply to a line that is asked was written, a prefix of it if a write failed, and else nothing:
--- the writer before and after
+-- the reply to a line that is asked was written, a prefix of it if a write failed, and else
+-- nothing: the writer before and after
 abbrev pub SendsReply : {W T : Type 0} → (List ℕ → Type 0) → (List ℕ → List ℕ → Type 0)
     → (W → Option (List ℕ)) → WatchedData W → WatchedData W → Result T ServeFault → Type 0
 SendsReply asks gives contents old new (Ok end) =

@@ -59,9 +59,9 @@ unsent_of (Responds line reply steps sent) = drop sent reply
 unsent_of talk = []
 
 -- the bytes of the reply that were sent
-abbrev pub said_of : Talk → List ℕ
-said_of (Responds line reply steps sent) = take sent reply
-said_of talk = []
+abbrev pub spoken_of : Talk → List ℕ
+spoken_of (Responds line reply steps sent) = take sent reply
+spoken_of talk = []
 
 -- a bound of the steps of the search that are left until the reply is there; 0 once it is there
 abbrev pub steps_of : Talk → ℕ
@@ -94,9 +94,9 @@ put_back (Responds line reply (suc steps) sent) =
 put_back talk = talk
 
 -- the line is answered with this reply
-abbrev pub HasReply : Talk → List ℕ → List ℕ → Type 0
-HasReply (Responds asked given steps sent) line reply = (line ≡ asked) × (reply ≡ given)
-HasReply talk line reply = ⊥
+abbrev pub HoldsReply : Talk → List ℕ → List ℕ → Type 0
+HoldsReply (Responds asked given steps sent) line reply = (line ≡ asked) × (reply ≡ given)
+HoldsReply talk line reply = ⊥
 
 -- the state of a conversation agrees with all bytes that came in
 abbrev pub HasHeard : Bool → List ℕ → Talk → Type 0

@@ -12,8 +12,8 @@ use Rattle.gopher_server.specs.declared.decisions.held.Held.{Held}
 use Rattle.gopher_server.specs.declared.logging.thread_log.ThreadLog.{ThreadLog}
 
 -- a thread has nothing left to do: it accepts no more, and holds no connection
-abbrev pub is_done : {T : Type 0} → Accepting → Held T → Bool
-is_done state held = has_ended state && (length (held_entries held) == 0)
+abbrev pub has_no_work : {T : Type 0} → Accepting → Held T → Bool
+has_no_work state held = has_ended state && (length (held_entries held) == 0)
 
 -- the shorter of two waits, or the first of two times, of those that there are
 abbrev pub shorter : Option ℕ → Option ℕ → Option ℕ

@@ -1,7 +1,7 @@
 //! A server thread at work (`serve`): accepting clients, and its round of events.
 
 ghost use Rattle.std.specs.Prelude.{◌≡◌};
-ghost use Rattle.gopher_server.specs.Waits.{IsLongestWait, is_done};
+ghost use Rattle.gopher_server.specs.Waits.{IsLongestWait, has_no_work};
 ghost use Rattle.gopher_server.specs.declared.decisions.accepting.Accepting.TheVariants.{Ended};
 ghost use Rattle.gopher_server.specs.declared.server.ThreadEnd.TheVariants.{Failed};
 
@@ -169,7 +169,7 @@ impl<'a, A: Answers<'a> + Drop> Server<'a, A> {
 
     // Whether nothing is left to do.
     fn is_done(&self) -> bool
-        ensures { result ≡ is_done self.now.acceptor.state self.now.connections }
+        ensures { result ≡ has_no_work self.now.acceptor.state self.now.connections }
     {
         self.acceptor.state.has_ended() && self.connections.len() == 0
     }

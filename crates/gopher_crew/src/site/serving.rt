@@ -2,7 +2,7 @@
 
 ghost use Rattle.std.specs.Prelude.{◌≡◌, IfErr};
 ghost use Rattle.gopher_text.specs.Line.{IsNextLine};
-ghost use Rattle.gopher_serve.specs.Serve.{IsUnheard, ReadsRequest, SendsReply};
+ghost use Rattle.gopher_serve.specs.Serve.{IsUnheard, HearsRequest, SendsReply};
 ghost use Rattle.gopher_crew.specs.Answer.{AnswersLine};
 
 use crate::crew::Crew;
@@ -32,7 +32,7 @@ pub fn serve_one<C: Crew, R: Read, W: Write>(
     reader: &mut Watched<R>,
     writer: &mut Watched<W>,
 ) -> Result<(), ServeFault>
-    ensures read { ReadsRequest R.remaining reader.old reader.new result }
+    ensures read { HearsRequest R.remaining reader.old reader.new result }
     ensures sent { SendsReply (IsNextLine R.remaining reader.old)
         (AnswersLine tree.now home.now pass.old pass.new) W.contents writer.old writer.new result }
     ensures unheard { IfErr result (λ fault. IsUnheard fault → pass.new ≡ pass.old) }
