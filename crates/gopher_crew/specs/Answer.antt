@@ -22,13 +22,6 @@ use Rattle.gopher_serve.specs.Leads.{Leads}
 abbrev pub is_search : List ℕ → Bool
 is_search selector = pointwise nat_eq selector (codes "/search")
 
--- the error replies `Bad request`, `No words` and `No catalogue`
-abbrev pub bad_request_bytes : HomeData → List ℕ
-bad_request_bytes home = error_bytes (codes "Bad request") home
-
-abbrev pub no_catalogue_bytes : HomeData → List ℕ
-no_catalogue_bytes home = error_bytes (codes "No catalogue") home
-
 -- the terms of a search string; none if there is no string
 abbrev pub asked : Option (List ℕ) → List TermData
 asked None = []
@@ -42,13 +35,13 @@ IsQueryFor terms query =
 -- the reply to a search for these terms; `None` if the published version couldn't be entered
 abbrev pub search_reply : HomeData → List TermData → Option (List Hit) → List ℕ
 search_reply home [] outcome = error_bytes (codes "No words") home
-search_reply home (term ∷ terms) None = no_catalogue_bytes home
+search_reply home (term ∷ terms) None = error_bytes (codes "No catalogue") home
 search_reply home (term ∷ terms) (Some hits) = hits_bytes hits
 
 -- the reply to a line, given without its end
 abbrev pub reply_of : List File → HomeData → List ℕ → Option (List Hit) → List ℕ
 reply_of files home line outcome =
-    option_map_or (λ fault. bad_request_bytes home) (request_fault line)
+    option_map_or (λ fault. error_bytes (codes "Bad request") home) (request_fault line)
     (if is_search (request_of line).selector
     then search_reply home (asked (request_of line).search) outcome
     else tree_reply files home (request_of line).selector)

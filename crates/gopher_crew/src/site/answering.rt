@@ -1,9 +1,10 @@
 //! The reply to a request line, made anew (`answer`) or from kept replies (`answer_kept`).
 
-ghost use Rattle.std.specs.Prelude.{◌≡◌, IfOk, OnErr};
+ghost use Rattle.std.specs.Prelude.{◌≡◌, codes, IfOk, OnErr};
+ghost use Rattle.gopher_tree.specs.Reply.{error_bytes};
 ghost use Rattle.gopher_serve.specs.Answer.{IfAnswered};
 ghost use Rattle.gopher_crew.specs.Crew.{SeesOn};
-ghost use Rattle.gopher_crew.specs.Answer.{AnswersFrom, AnswersLine, IfBytes, bad_request_bytes, is_search};
+ghost use Rattle.gopher_crew.specs.Answer.{AnswersFrom, AnswersLine, IfBytes, is_search};
 
 use crate::crew::Crew;
 use crate::pass::Pass;
@@ -83,7 +84,7 @@ fn is_search(selector: &[u8]) -> bool
 
 // The reply to an invalid line.
 fn bad_request(alloc: Global, home: &Home) -> Result<Vec<u8>, NoMemory>
-    ensures { IfOk result (λ reply. reply.items ≡ bad_request_bytes home.now) }
+    ensures { IfOk result (λ reply. reply.items ≡ error_bytes (codes "Bad request") home.now) }
 {
     error_reply(alloc, b"Bad request", home)
 }
