@@ -1,7 +1,7 @@
 -- Large pages: a segment's table leaves out their words.
 use Rattle.std.specs.Prelude.{◌≡◌, ℕ, ◌+◌, Bool, List, [], ◌∷◌, map, slice_index_or, slice_set, if◌then◌else◌}
 use Rattle.gopher_page.specs.Page.{PageData, is_large, page_with}
-use Rattle.gopher_segment.specs.Rows.{RowData, page_rows}
+use Rattle.gopher_segment.specs.Rows.{WordRow, page_rows}
 use Rattle.gopher_segment.specs.Segment.{meant_counts}
 
 -- a page as the table of its segment has it: without its words if it is large
@@ -12,7 +12,7 @@ abbrev pub table_pages : List PageData → List PageData
 table_pages pages = map in_table pages
 
 -- the rows of a page in the table of its segment
-abbrev pub table_rows : ℕ → PageData → List RowData
+abbrev pub table_rows : ℕ → PageData → List WordRow
 table_rows number page = page_rows number (in_table page).counts
 
 -- the indices of the large pages, if the first page has the index `index`
