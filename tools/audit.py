@@ -21,6 +21,7 @@ CRATES = {path.parent.name for path in ROOT.glob("crates/*/src")}
 WORD = re.compile(r"(?<![\w.'])[^\W\d][\w'-]*")
 HEAD = r"(?:(?:abbrev|unfoldable)(?: pub)?|(?:pub )?(?:record|data)) ([^\s:({]+)"
 DEFINITION = re.compile(rf"(?ms)^(?:(?:  )?--(?! ----)[^\n]*\n)*^(?:  )?{HEAD}.*?(?=^\n|^(?:  )?--|^use |^module |\Z)")
+MODULE, INSIDE = re.compile(r"(?m)^module .*"), re.compile(rf"(?m)^  {HEAD}")
 USE = re.compile(r"use (Rattle|mathlib)\.([\w.]+?)(?:\.\{([^}]*)\}| as (\w+))")
 RUST_USE = re.compile(r"(?m)^use ((?:\w+::)+)(\{[^}]*\}|\w+)")
 TYPE = re.compile(r"(?ms)^(?:pub(?:\(crate\))? )?(struct|enum|trait) (\w+)[^\n]*?(?:;$|\{\}$|\{$.*?^\}|$.*?^\})")
@@ -62,9 +63,11 @@ def uses(text):
 
 
 def definitions(path):
-    """The definitions of a file of specs/."""
+    """The definitions of a file of specs/, each below the head of the module that it stands in, whose parameters it has."""
     text, file = path.read_text(), path.relative_to(ROOT / "crates")
-    return [Item(file.parts[0], str(file), found[1], found[0].strip(), uses(text)) for found in DEFINITION.finditer(text)]
+    head = lambda found: MODULE.findall(text[:found.start()])[-1:] if INSIDE.search(found[0]) else []
+    shown = lambda found: "\n".join([*head(found), found[0].strip("\n")])
+    return [Item(file.parts[0], str(file), found[1], shown(found), uses(text)) for found in DEFINITION.finditer(text)]
 
 
 def types(path):

@@ -37,6 +37,11 @@ class Audit(unittest.TestCase):
             begun = re.findall(r"(?m)^(?:abbrev|unfoldable|  abbrev|(?:  )?pub record|record|(?:pub )?data) ", path.read_text())
             self.assertEqual(len(audit.definitions(path)), len(begun), str(path))
 
+    def test_a_definition_in_a_module_has_its_parameters(self):
+        found = {item.name: item.text for item in audit.definitions(audit.ROOT / "crates/gopher_text/specs/Watched.antt")}
+        self.assertTrue(found["HasRead"].startswith("module _ {D : Type 0} (known"), found["HasRead"])
+        self.assertTrue(found["WatchedData"].startswith("--"), found["WatchedData"])
+
     def test_every_word_of_this_repository_is_found(self):
         for item in TREE.reached(sum(TREE.promises.values(), []))[0]:
             for word in audit.WORD.findall("\n".join(item.read())):

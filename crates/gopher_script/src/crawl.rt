@@ -17,8 +17,7 @@ use std::alloc::Global;
 /// Claims the next place.
 pub fn claim(alloc: Global, crawl: &mut Catalogue) -> Result<Vec<u8>, NoMemory>
     ensures answer { ReturnsBytes result (turn_line (turn_of crawl.old)) }
-    ensures record { OnOk result
-        (crawl.new ≡ after_turn crawl.old (turn_of crawl.old)) }
+    ensures record { OnOk result (crawl.new ≡ after_turn crawl.old (turn_of crawl.old)) }
 {
     match crawl.claim()? {
         Turn::Take(claim) => take_line(alloc, claim.number, &claim.place),
@@ -36,8 +35,7 @@ pub fn found(
     reply: &[u8],
 ) -> Result<Vec<u8>, NoMemory>
     ensures answer { ReturnsBytes result (found_line crawl.old number parts.now reply.now) }
-    ensures record { OnOk result
-        (crawl.new ≡ after_found crawl.old number parts.now reply.now) }
+    ensures record { OnOk result (crawl.new ≡ after_found crawl.old number parts.now reply.now) }
 {
     match parts.make(alloc) {
         Ok(place) => found_at(alloc, crawl, number, &place, reply),
@@ -52,10 +50,8 @@ fn found_at(
     place: &Place,
     reply: &[u8],
 ) -> Result<Vec<u8>, NoMemory>
-    ensures answer { ReturnsBytes result
-        (page_line crawl.old number place.now reply.now) }
-    ensures record { OnOk result
-        (crawl.new ≡ after_page crawl.old number place.now reply.now) }
+    ensures answer { ReturnsBytes result (page_line crawl.old number place.now reply.now) }
+    ensures record { OnOk result (crawl.new ≡ after_page crawl.old number place.now reply.now) }
 {
     // For the prover: a block is no longer than its script.
     if reply.len() > MAX_REPLY {

@@ -31,8 +31,7 @@ pub struct Performed {
 
 /// Starts the crawl, unless its catalogue can't be opened.
 fn start(alloc: Global, draft: Draft, places: u32, tries: u32) -> Result<Performed, NoMemory>
-    ensures answer { IfOk result
-        (λ done. done.answer.items ≡ start_line draft places tries) }
+    ensures answer { IfOk result (λ done. done.answer.items ≡ start_line draft places tries) }
     ensures stage { IfOk result (λ done. done.stage ≡ after_start draft places tries) }
 {
     let Draft { allow, deny, seeds } = draft;

@@ -70,7 +70,8 @@ module _ {A : Type 0} (gives : A → A → List ℕ → List ℕ → Type 0) whe
   IsAsked old new before after progress =
       (line : List ℕ) → old ≡ Asks line → RepliesToLine line new before after progress
 
-  -- one step asks for the reply if it isn't asked for yet, and fails if there is no line to ask
+  -- one step asks for the reply to a line that is asked, fails if the line is too long or memory
+  -- lacks, and else leaves the answers as they are
   abbrev pub AsksOnce : Talk → Talk → A → A → Progress → Type 0
   AsksOnce (Asks line) new before after progress = RepliesToLine line new before after progress
   AsksOnce IsTooLong new before after progress =

@@ -6,8 +6,8 @@ use Rattle.gopher_text.specs.declared.fault.LineFault.TheVariants as line_fault
 use Rattle.gopher_serve.specs.declared.fault.ServeFault.{ServeFault}
 use Rattle.gopher_serve.specs.declared.fault.ServeFault.TheVariants.{LineTooLong, ReadFailed, TooManyTurns, WriteFailed, NoMemory}
 
--- exactly the first line and its end were read, also if no reply was sent, or reading it failed:
--- the reader before and after
+-- exactly the first line and its end were read, whether or not its reply was sent, unless reading
+-- it failed: the reader before and after
 abbrev pub HearsRequest : {R T : Type 0} → (R → Option (List ℕ)) → WatchedData R → WatchedData R
     → Result T ServeFault → Type 0
 HearsRequest remaining old new (Err LineTooLong) =

@@ -45,8 +45,8 @@ abbrev pub TakesAndFailsAtMost : {R : Type 0} → WatchedData R → WatchedData 
 TakesAndFailsAtMost old new taken limit =
     (old.failures ≤ new.failures) × (new.failures + taken ≤ old.failures + limit)
 
--- the bytes that a reader has left are given as a function of it; then comes the reader before and
--- after
+-- the bytes that a reader has left are given as a function of it; then come the reader before and
+-- after (of `IsNextLine`, the reader before)
 module _ {R : Type 0} (remaining : R → Option (List ℕ)) where
   -- why reading stopped after these bytes of a line
   abbrev pub StopsInLine : {T : Type 0} → WatchedData R → WatchedData R → List ℕ

@@ -21,7 +21,7 @@ RefusesReply limit before after bytes TooManyTurns =
 RefusesReply limit before after bytes ReplyTooLong = length bytes ≡ limit + 1
 RefusesReply limit before after bytes NoMemory = length bytes ≤ limit
 
--- the bytes that a reader has left are given as a function of it; then comes the reader before and
+-- the bytes that a reader has left are given as a function of it; then come the reader before and
 -- after
 module _ {R : Type 0} (remaining : R → Option (List ℕ)) where
   -- the outcome of one read into the buffer after its first `filled` bytes

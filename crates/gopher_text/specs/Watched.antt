@@ -19,7 +19,7 @@ module _ {D : Type 0} (known : D → Option (List ℕ)) where
   abbrev pub HasSent : WatchedData D → WatchedData D → List ℕ → Type 0
   HasSent old new bytes = Appends (known old.device) (known new.device) bytes
 
-  -- exactly as many of these bytes were written as the fault says
+  -- exactly the first of these bytes were written, as many as the fault says
   abbrev pub HasSentPart : WatchedData D → WatchedData D → List ℕ → SendFault → Type 0
   HasSentPart old new bytes fault = HasSent old new (take fault.sent bytes)
 

@@ -82,6 +82,6 @@ line_data line =
       server = server_data line.server;
     }
 
--- a call returns this line, or none if it isn't a line
+-- a call returns this line, or `None` if there is none
 abbrev pub Gives : Option WrittenLineData → Option WrittenLine → Type 0
 Gives wanted line = option_map line_data line ≡ wanted

@@ -63,12 +63,12 @@ folders_within (suc (suc count)) path =
     then folders_within (suc count) path ++ take (suc count) path ∷ []
     else folders_within (suc count) path
 
--- a path leads at this position through a folder whose path passes the test
-abbrev pub leads_at : (List ℕ → Bool) → List ℕ → ℕ → Bool
-leads_at test path place = slice_index path place == 47 && test (take place path)
-
 abbrev pub folders_of : List ℕ → List (List ℕ)
 folders_of path = folders_within (length path) path
+
+-- a slash is at this position of a path, and what comes before it passes the test
+abbrev pub leads_at : (List ℕ → Bool) → List ℕ → ℕ → Bool
+leads_at test path place = slice_index path place == 47 && test (take place path)
 
 -- the path of a selector, unless a nonempty selector doesn't begin with a slash
 abbrev pub path_of : List ℕ → Option (List ℕ)

@@ -39,8 +39,7 @@ fn written_item<'a>(
     selector: &'a [u8],
     server: Option<(&'a [u8], u16)>,
 ) -> Option<WrittenLine<'a>>
-    ensures { Gives (written_item kind display.now selector.now
-        (server_data server.entry)) result }
+    ensures { Gives (written_item kind display.now selector.now (server_data server.entry)) result }
 {
     if !is_item(kind, display, selector) {
         return None;
