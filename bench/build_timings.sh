@@ -7,8 +7,8 @@ cd "$(dirname "$0")/.."
 crate=$folder/crates/test_timings
 mkdir -p "$folder"
 cp -r crates.txt HANDLES crates "$folder"
-rm -rf "$folder"/crates/{test_library,test_settings,example_crawl}
-sed -i '/^test_library /d; /^test_settings:/d; /^example_crawl /d' "$folder/crates.txt"
+rm -rf "$folder"/crates/{test_library,example_crawl}
+sed -i '/^test_library /d; /^example_crawl /d' "$folder/crates.txt"
 uses="gopher_item gopher_text gopher_page gopher_scope gopher_index gopher_catalogue gopher_crew"
 echo "test_timings tests_may=Threads+Wait: $uses" >> "$folder/crates.txt"
 mkdir -p "$crate/src" "$crate"/proofs/{timed_crawls/measure_by,timed_formats/text_lines}

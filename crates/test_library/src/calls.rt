@@ -5,6 +5,7 @@ use gopher_catalogue::Why;
 use gopher_crew::laws::settle;
 use gopher_item::{MenuLine, Place, Places, Scope, write_menu};
 use gopher_page::{Page, Query, words};
+use gopher_scope::{Key, SettingsFault};
 use gopher_text::{read_text, write_text};
 use gopher_tree::TreeFault;
 use std::alloc::Global;
@@ -28,6 +29,13 @@ fn lines_and_faults_are_written(rt: HostRuntime) {
     let fault = TreeFault::BadMenuLine { file: 3, line: 7 };
     let told = format!(in alloc; "{fault}").expect(&rt, "words");
     assert!(rt; told.as_str().starts_with("file 3: line 7 "));
+}
+
+#[test]
+fn a_fault_of_settings_tells_its_key(rt: HostRuntime) {
+    let fault = SettingsFault::OutOfRange(Key::Port);
+    let told = format!(in rt.alloc(); "{fault}").expect(&rt, "words");
+    assert!(rt; told.as_str().starts_with("port: "));
 }
 
 // The page of a reply.
