@@ -6,7 +6,7 @@ ghost use Rattle.gopher_script.specs.Answer.{ReturnsBytes};
 ghost use Rattle.gopher_script.specs.Stage.{turn_line, page_line, after_page, after_found, found_line, fail_line, after_fail, search_lines, occurs_lines};
 
 use crate::command::{PlaceParts, QueryText};
-use crate::lines::{added_line, refused_line, take_line};
+use crate::lines::{added_line, ok_line, refused_line, take_line};
 use crate::listing::{hits_lines, places_lines};
 use gopher_catalogue::{Catalogue, Turn, Why};
 use gopher_item::{NoMemory, Place};
@@ -78,7 +78,7 @@ pub fn fail(
     ensures record { OnOk result (crawl.new ≡ after_fail crawl.old number why) }
 {
     match crawl.fail(number, why) {
-        Ok(()) => Ok(Vec::from_slice(alloc, b"ok\n")?),
+        Ok(()) => ok_line(alloc),
         Err(refused) => refused_line(alloc, refused.code()),
     }
 }

@@ -1,11 +1,18 @@
 //! The answers of commands that are one line, as bytes.
 
-ghost use Rattle.std.specs.Prelude.{◌≡◌, ◌≢◌, ◌++◌, IfOk, OnOk};
+ghost use Rattle.std.specs.Prelude.{◌≡◌, ◌≢◌, ◌++◌, codes, IfOk, OnOk};
 ghost use Rattle.gopher_script.specs.Answer.{refused_line, place_fields, take_line, added_line, status_line};
 
 use gopher_catalogue::{Added, Status};
 use gopher_item::{NoMemory, Place};
 use std::alloc::Global;
+
+/// Makes the answer to a command that did something.
+pub fn ok_line(alloc: Global) -> Result<Vec<u8>, NoMemory>
+    ensures { IfOk result (λ line. line.items ≡ codes "ok\n") }
+{
+    Ok(Vec::from_slice(alloc, b"ok\n")?)
+}
 
 /// Makes the answer to what is refused with this number. It fails if that is 90, out of memory.
 pub fn refused_line(alloc: Global, code: u8) -> Result<Vec<u8>, NoMemory>

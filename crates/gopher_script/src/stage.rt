@@ -1,12 +1,12 @@
 //! What each command does before the crawl and during it (`perform`).
 
-ghost use Rattle.std.specs.Prelude.{◌≡◌, [], IfOk, OnOk};
+ghost use Rattle.std.specs.Prelude.{◌≡◌, [], Ok, IfOk, OnOk};
 ghost use Rattle.gopher_script.specs.Stage.{start_line, after_start, answer_in, after_in, IsAnswer, Performs};
 
 use crate::command::Command;
 use crate::crawl::{claim, fail, found, occurs, search};
 use crate::draft::{Draft, add_rule, add_seed};
-use crate::lines::{refused_line, status_line};
+use crate::lines::{ok_line, refused_line, status_line};
 use gopher_catalogue::Catalogue;
 use gopher_item::{NoMemory, Scope};
 use std::alloc::Global;
@@ -29,6 +29,14 @@ pub struct Performed {
     pub answer: Vec<u8>,
 }
 
+// What a command made, if there was memory for its answer.
+fn with_answer(stage: Stage, answer: Result<Vec<u8>, NoMemory>) -> Result<Performed, NoMemory>
+    ensures { IfOk result (λ done. (done.stage ≡ stage) × (answer ≡ Ok done.answer)) }
+{
+    let answer = answer?;
+    Ok(Performed { stage, answer })
+}
+
 /// Starts the crawl, unless its catalogue can't be opened.
 fn start(alloc: Global, draft: Draft, places: u32, tries: u32) -> Result<Performed, NoMemory>
     ensures answer { IfOk result (λ done. done.answer.items ≡ start_line draft places tries) }
@@ -36,17 +44,12 @@ fn start(alloc: Global, draft: Draft, places: u32, tries: u32) -> Result<Perform
 {
     let Draft { allow, deny, seeds } = draft;
     match Catalogue::open(alloc, Scope::new(allow, deny), seeds, places, tries) {
-        Ok(catalogue) => {
-            let stage = Stage::Crawling(catalogue);
-            let answer = Vec::from_slice(alloc, b"ok\n")?;
-            Ok(Performed { stage, answer })
-        }
+        Ok(catalogue) => with_answer(Stage::Crawling(catalogue), ok_line(alloc)),
         Err(refused) => {
             let (allow, deny) = refused.scope.into_rules();
             let seeds = refused.seeds;
-            let stage = Stage::Gathering(Draft { allow, deny, seeds });
-            let answer = refused_line(alloc, refused.fault.code())?;
-            Ok(Performed { stage, answer })
+            let answer = refused_line(alloc, refused.fault.code());
+            with_answer(Stage::Gathering(Draft { allow, deny, seeds }), answer)
         }
     }
 }
