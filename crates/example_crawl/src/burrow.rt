@@ -1,21 +1,27 @@
-//! A host in memory.
+//! A host in memory, and a crawl of it.
 
-ghost use Rattle.std.specs.Prelude.{◌≡◌, ◌≤◌, vec_len, IfOk};
+ghost use Rattle.std.specs.Prelude.{◌≡◌, ◌≤◌, length, vec_len, IfOk, IfSome};
 
-use gopher_catalogue::Why;
+use crate::failed::Failed;
+use gopher_catalogue::{Catalogue, Why};
 use gopher_crew::{Calls, Fetch};
-use gopher_item::Place;
+use gopher_item::{Place, Rule, Scope};
 use std::alloc::Global;
 
-/// The name of the host.
-pub const HOST: &[u8] = b"burrow.example";
+/// The most places that become known. Further links are counted as dropped.
+pub const PLACES: u32 = 100;
 
-/// Its port.
-pub const PORT: u16 = 70;
+// A place whose fetch failed isn't claimed again.
+const TRIES: u32 = 1;
+
+const HOST: &[u8] = b"burrow.example";
+
+const PORT: u16 = 70;
 
 const MENU: &[u8] = b"iA burrow\t\tburrow.example\t70\r\n\
 0The moon\t/moon.txt\tburrow.example\t70\r\n\
-0The tide\t/tide.txt\tburrow.example\t70\r\n.\r\n";
+0The tide\t/tide.txt\tburrow.example\t70\r\n\
+0The sun\t/sun.txt\tburrow.example\t70\r\n.\r\n";
 
 const MOON: &[u8] = b"The moon\r\nThe moon pulls the sea.\r\n.\r\n";
 
@@ -34,8 +40,10 @@ impl Burrow {
     }
 }
 
-// The reply of a selector.
-fn reply(selector: &[u8]) -> Option<&'static [u8]> {
+/// The host's reply to a selector. It has no sun.
+pub fn reply(selector: &[u8]) -> Option<&'static [u8]>
+    ensures { IfSome result (λ reply. length reply.now ≤ 1048576) }
+{
     match selector {
         b"" => Some(MENU),
         b"/moon.txt" => Some(MOON),
@@ -79,5 +87,23 @@ impl<R> Fetch<R> for Burrow {
             Some(reply) => copy(alloc, reply, limit),
             None => Err(Why::Read),
         }
+    }
+}
+
+// The whole host may be visited.
+fn scope(alloc: Global) -> Result<Scope, Failed> {
+    let rule = Rule::new(alloc, HOST, PORT, b"")?;
+    let allow = vec![in alloc; rule]?;
+    Ok(Scope::new(allow, Vec::new(alloc)))
+}
+
+/// A catalogue whose crawl begins in the root of the host.
+pub fn catalogue(alloc: Global) -> Result<Catalogue, Failed> {
+    let root = Place::new(alloc, b'1', b"", HOST, PORT)?;
+    let seeds = vec![in alloc; root]?;
+    let scope = scope(alloc)?;
+    match Catalogue::open(alloc, scope, seeds, PLACES, TRIES) {
+        Ok(catalogue) => Ok(catalogue),
+        Err(_refused) => Err(Failed::Refused),
     }
 }

@@ -1,5 +1,6 @@
-//! How a program of your own uses the library: it opens a desk, crawls three replies in memory by
-//! two workers, searches them by two passes, and closes the desk.
+//! How a program of your own uses the library. First `smallest.rt`: one catalogue crawls three
+//! replies in memory, and is searched. Then a desk over such a catalogue: two workers crawl, two
+//! passes search, and the desk is closed.
 //!
 //! What a desk is opened with:
 //!
@@ -19,45 +20,22 @@ ghost use Rattle.gopher_crew.specs.Desk.{IsBlankOf};
 
 mod burrow;
 mod failed;
+mod smallest;
 
-use burrow::Burrow;
+use burrow::{Burrow, catalogue};
 use failed::Failed;
 use gopher_catalogue::Catalogue;
 use gopher_crew::{Answer, Blank, Crew, Desk, Pass, Share, crawl};
-use gopher_item::{Place, Rule, Scope};
 use gopher_page::Query;
+use smallest::{print_hits, print_status, searched};
 use std::alloc::Global;
 use std::marker::Brand;
 use std::sync::Wait;
 use std::thread::Threads;
 
-// The most places that become known. Further links are counted as dropped.
-const PLACES: u32 = 100;
-
-// A place whose fetch failed isn't claimed again.
-const TRIES: u32 = 1;
-
 const PASSES: u32 = 2;
 
 const WORKERS: u32 = 2;
-
-// The whole host may be visited.
-fn scope(alloc: Global) -> Result<Scope, Failed> {
-    let rule = Rule::new(alloc, burrow::HOST, burrow::PORT, b"")?;
-    let allow = vec![in alloc; rule]?;
-    Ok(Scope::new(allow, Vec::new(alloc)))
-}
-
-// The crawl begins in the root of the host.
-fn catalogue(alloc: Global) -> Result<Catalogue, Failed> {
-    let root = Place::new(alloc, b'1', b"", burrow::HOST, burrow::PORT)?;
-    let seeds = vec![in alloc; root]?;
-    let scope = scope(alloc)?;
-    match Catalogue::open(alloc, scope, seeds, PLACES, TRIES) {
-        Ok(catalogue) => Ok(catalogue),
-        Err(_refused) => Err(Failed::Refused),
-    }
-}
 
 // Each worker has a fetcher of its own, and a share that counts its events.
 fn pairs<C: Crew>(alloc: Global, shares: Vec<Share<C>>) -> Result<Vec<(Burrow, Share<C>)>, Failed> {
@@ -134,14 +112,6 @@ fn search_and_close<C: Crew, R: Wait + Drop>(
     })
 }
 
-fn print_hits<R: Print>(rt: &R, answer: &Answer) -> Result<(), Failed> {
-    for hit in &answer.hits {
-        let title = str::from_utf8(hit.title.as_slice()).unwrap_or("?");
-        println!(rt; "{} {title}", hit.score)?;
-    }
-    Ok(())
-}
-
 // Crawls, searches and closes the desk. Gives the catalogue with its whole record.
 fn closed<C: Crew + Send + Sync, R: Print + AllocGlobal + Threads + Wait + Sync>(
     rt: &R,
@@ -158,7 +128,7 @@ fn closed<C: Crew + Send + Sync, R: Print + AllocGlobal + Threads + Wait + Sync>
     };
     let shares = crawled(rt, &desk, shares)?;
     let end = search_and_close(desk, shares, first, second, query)?;
-    print_hits(rt, &end.first)?;
+    print_hits(rt, &end.first.hits)?;
     println!(rt; "{} in both answers", end.second.hits.len())?;
     Ok(end.catalogue)
 }
@@ -167,23 +137,25 @@ fn closed<C: Crew + Send + Sync, R: Print + AllocGlobal + Threads + Wait + Sync>
 fn opened<C: Crew + Send + Sync, R: Print + AllocGlobal + Threads + Wait + Sync>(
     rt: &R,
     blank: Blank,
+    query: &Query,
 ) -> Result<Catalogue, Failed>
     requires blank { IsBlankOf C.name C.parts C.history blank }
     requires begun { blank.begun ≡ [] }
 {
-    let Ok(query) = Query::read(rt.alloc(), b"moon") else {
-        return Err(Failed::Refused);
-    };
     let catalogue = catalogue(rt.alloc())?;
     match Desk::<C, &R>::open(rt, rt.alloc(), catalogue, PASSES, WORKERS, blank) {
-        Ok((desk, mut passes, shares)) => closed(rt, desk, &mut passes, shares, &query),
+        Ok((desk, mut passes, shares)) => closed(rt, desk, &mut passes, shares, query),
         Err(_refused) => Err(Failed::Refused),
     }
 }
 
 fn main(rt: HostRuntime) -> Result<(), Failed> {
-    let catalogue = opened::<Brand, _>(&rt, Blank::new())?;
-    let status = catalogue.status();
-    println!(rt; "{} places known, {} done", status.known, status.done)?;
-    Ok(())
+    let Ok(query) = Query::read(rt.alloc(), b"moon") else {
+        return Err(Failed::Refused);
+    };
+    let Some(()) = searched(&rt, &query) else {
+        return Err(Failed::Refused);
+    };
+    let catalogue = opened::<Brand, _>(&rt, Blank::new(), &query)?;
+    print_status(&rt, &catalogue)
 }
