@@ -30,11 +30,20 @@ use std::sync::Arc;
 ///
 /// Contracts see a catalogue as its record, which is always legal. The frontier and the index
 /// beside the record let a step or a search run without reading the record again.
-#[derive(Drop)]
 pub struct Catalogue {
     alloc: Global,
     archive: Archive,
     frontier: Frontier,
+}
+
+impl Drop for Catalogue {
+    fn drop(self) {
+        let Self {
+            alloc: _alloc,
+            archive: _archive,
+            frontier: _frontier,
+        } = self;
+    }
 }
 
 impl Model for Catalogue {

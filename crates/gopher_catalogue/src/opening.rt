@@ -7,12 +7,17 @@ use gopher_item::{Place, Scope};
 use std::marker::Model;
 
 /// The arguments with which a crawl begins: its scope, its seeds and its limits.
-#[derive(Drop)]
 pub struct Opening {
     scope: Scope,
     seeds: Vec<Place>,
     places: u32,
     tries: u32,
+}
+
+impl Drop for Opening {
+    fn drop(self) {
+        let _parts = self.into_parts();
+    }
 }
 
 impl Model for Opening {
@@ -39,7 +44,13 @@ impl Opening {
         ensures scope { result.0 ≡ self.scope }
         ensures seeds { result.1.items ≡ self.seeds }
     {
-        (self.scope, self.seeds)
+        let Self {
+            scope,
+            seeds,
+            places: _places,
+            tries: _tries,
+        } = self;
+        (scope, seeds)
     }
 
     /// Returns the scope: the places that the crawl may visit.

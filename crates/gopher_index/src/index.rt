@@ -70,7 +70,6 @@ fn loose_len(parts: &[Part]) -> usize {
 }
 
 /// A list of pages that can be searched.
-#[derive(Drop)]
 pub struct Index {
     parts: Vec<Part>,
     // The number of pages.
@@ -79,6 +78,17 @@ pub struct Index {
     taken: Vec<usize>,
     // The number of words of all pages, counted for each page.
     words: usize,
+}
+
+impl Drop for Index {
+    fn drop(self) {
+        let Self {
+            parts: _parts,
+            count: _count,
+            taken: _taken,
+            words: _words,
+        } = self;
+    }
 }
 
 impl Model for Index {

@@ -21,7 +21,6 @@ use std::marker::Model;
 ///
 /// It shares the pages that the index had at `Index::begin`. If the index changes meanwhile, the
 /// hits stay those of these pages.
-#[derive(Drop)]
 pub struct Search {
     alloc: Global,
     parts: Vec<Part>,
@@ -34,6 +33,20 @@ pub struct Search {
     joined: Joined,
     // The number of parts that were searched.
     done: usize,
+}
+
+impl Drop for Search {
+    fn drop(self) {
+        let Self {
+            alloc: _alloc,
+            parts: _parts,
+            terms: _terms,
+            groups: _groups,
+            kept: _kept,
+            joined: _joined,
+            done: _done,
+        } = self;
+    }
 }
 
 impl Model for Search {

@@ -45,9 +45,14 @@ impl Model for Parts {
 ///
 /// Copies share the parts, so a copy takes no bytes of its own. The links are packed; a frontier
 /// copies those that become known places.
-#[derive(Drop)]
 pub struct Page {
     parts: Arc<Parts>,
+}
+
+impl Drop for Page {
+    fn drop(self) {
+        let Self { parts: _parts } = self;
+    }
 }
 
 impl Model for Page {

@@ -29,7 +29,6 @@ use std::sync::Arc;
 ///
 /// The table leaves out large pages (`Page::is_large`), because a copy of their words would take
 /// much memory: their words are found in the pages.
-#[derive(Drop)]
 pub struct Segment {
     first: usize,
     pages: Vec<Arc<Page>>,
@@ -37,6 +36,18 @@ pub struct Segment {
     // The indices of the large pages, whose words aren't in the table.
     large: Vec<usize>,
     table: Table,
+}
+
+impl Drop for Segment {
+    fn drop(self) {
+        let Self {
+            first: _first,
+            pages: _pages,
+            ranks: _ranks,
+            large: _large,
+            table: _table,
+        } = self;
+    }
 }
 
 impl Model for Segment {
