@@ -1,4 +1,5 @@
 use Rattle.std.proofs.Common.{arith, take, length, length-take, ◌≤◌, ◌∙◌}
+use Rattle.std.proofs.lemmas.Grind.{common_steps}
 use Rattle.gopher_text.specs.Line.{without_end}
 use Rattle.gopher_text.proofs.LineLemmas.{first_line_read, line_read, line_refused, long_line_read, short_line_read}
 use Rattle.gopher_text.proofs.line_reader.read_line_from.Goals as goal
@@ -24,3 +25,6 @@ returns-clause-line g c =
 
 pub returns-clause-rest : goal.returns-clause-rest
 returns-clause-rest g c = (line_read _ _ _ c.fill-filled.ensures.read (rw c.in_default.is at c.fill-filled.ensures.stop)).1
+
+pub returns-clause-refused : goal.returns-clause-refused
+returns-clause-refused g c = grind (arith, common_steps)

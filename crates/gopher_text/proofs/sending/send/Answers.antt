@@ -1,5 +1,6 @@
 use Rattle.std.proofs.Common.{◌≡◌, ◌-◌, take, drop, length, length-drop, arith}
 use Rattle.std.proofs.lemmas.List.{take_all}
+use Rattle.std.proofs.lemmas.Grind.{common_steps}
 use Rattle.gopher_text.proofs.Streams.{appends_more, counts_nothing}
 use Rattle.gopher_text.proofs.sending.send.Goals as goal
 
@@ -18,3 +19,6 @@ loop-sent-preserved-in-Ok g c =
       omega (arith, same),
       omega (arith, same),
     )
+
+pub returns-in-Ok-eq0-clause-sent : goal.returns-in-Ok-eq0-clause-sent
+returns-in-Ok-eq0-clause-sent g c = grind (arith, common_steps)

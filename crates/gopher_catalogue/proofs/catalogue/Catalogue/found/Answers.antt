@@ -1,4 +1,5 @@
 use Rattle.std.proofs.Common.{filter, length, arith, refl, ap, sym, ◌∙◌}
+use Rattle.std.proofs.lemmas.Grind.{common_steps}
 use Rattle.gopher_item.specs.Scope.{allows}
 use Rattle.gopher_catalogue.specs.declared.fault.FoundFault.TheVariants.{NotOut, WrongPlace, NoMemory}
 use Rattle.gopher_catalogue.specs.Step.{is_place_at, found_fault, added_by}
@@ -32,6 +33,9 @@ returns-in-Err-clause-fault c =
     let right = ap (λ place. is_place_at c.self.inside.frontier.known.places c.args.number place) (sym c.place.ensures) ∙ sym c.if-not-has_place.ensures in
     is_refused c.self.inside.archive c.self.inside.frontier c.self.invariant c.args.number c.args.page.place _ c.self.view_is _ NoMemory
     (fault_none c.self.inside.archive c.self.inside.frontier c.self.invariant c.args.number c.in-Some.standing c.in-Some.ensures.0 c.in-Some.ensures.1 c.args.page.place right) refl
+
+pub invariant_of-self-in-Err : goal.invariant_of-self-in-Err
+invariant_of-self-in-Err c = grind (arith, common_steps)
 
 -- ---- the calls
 
