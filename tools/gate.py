@@ -9,7 +9,7 @@ parts.
 
 Parts run beside each other. The wrong bodies of a crate are tried once `rt ci` has proved it, on what its proofs leave idle, and
 once more after it if they failed. Tests of the program begin when `rt ci` has proved and built it; those that measure time or
-memory, or whose waits are short, run one by one after all others.
+memory, or whose waits are short, run after all others, two at once where there are four processors.
 
 A part that fails doesn't hide others. Its counts are those that it prints last; a part that prints none counts as one. The clock
 of a row is the sum of its parts', that of the last line is the gate's; the row of the proofs has all minutes of `rt ci`.
@@ -45,8 +45,9 @@ QUICK = {
     "program": (), "requests": (), "check": (), "replays": ("--scripts", "200", "--pages", "257"), "log": (),
     "attack": ("--memory", "100000"),
 }
-# tests that measure time or memory, or that wait for a second or two only: nothing else runs beside them
-ALONE = {"attack", "crawl_memory", "crawling", "log"}
+# tests that measure time or memory, or that wait for a second or two only: none of the others runs beside them, and of these at most
+# one, which leaves each two processors
+ALONE, PROCESSORS_ALONE = {"attack", "crawl_memory", "crawling", "log"}, 2
 # tests that want the built tests of a crate
 AFTER_CI = {"refusals"}
 # how many parts run at once, beside these, which take most of the gate
@@ -270,15 +271,20 @@ def attempt(part, program, proved, is_shown):
 def run_all(chosen, program, jobs):
     """Runs parts beside each other, and gives the rows of the table. `rt ci` and the wrong bodies run beside `jobs` of the others;
     these begin in the order in which they may. `program()` gives the program and whether it is proved."""
+    at_once = min(jobs, max(len(os.sched_getaffinity(0)) // PROCESSORS_ALONE, 1))
     rows = {row: Result() for row in ROWS}
     long = [it for it in chosen if it.name in LONG]
     others = sorted((it for it in chosen if not it.is_alone), key=lambda it: it.name in AFTER_CI)
-    with tempfile.TemporaryDirectory(prefix="gate-libraries-") as folder, ThreadPoolExecutor(jobs + len(long)) as pool:
+    alone = [it for it in chosen if it.is_alone]
+    with (
+        tempfile.TemporaryDirectory(prefix="gate-libraries-") as folder,
+        ThreadPoolExecutor(jobs + len(long)) as pool, ThreadPoolExecutor(at_once) as last,
+    ):
         proved = Proved(pathlib.Path(folder))
         if not any(it.name == "ci" for it in chosen):
             proved.end()
         run_part = lambda it: attempt(it, program, proved, it in long or jobs == 1)
-        for filled in [*pool.map(run_part, others), *map(run_part, (it for it in chosen if it.is_alone))]:
+        for filled in [*pool.map(run_part, others), *last.map(run_part, alone)]:
             rows |= {row: rows[row] + result for row, result in filled.items()}
     return rows
 
