@@ -7,9 +7,9 @@ Without --quick every part runs, as `make test` does. With --quick only the part
 the program that `make build` left if no source is younger, and else on one that is built without its proofs. PART names single
 parts.
 
-Parts run beside each other. The wrong bodies of a crate are tried once `rt ci` has proved it, on what its proofs leave idle, and
-once more after it if they failed. Tests of the program begin when `rt ci` has proved and built it; those that measure time or
-memory, or whose waits are short, run after all others, two at once where there are four processors.
+Parts run beside each other. The wrong bodies of a crate are tried once `rt ci` has proved the crates below it, on what its proofs
+leave idle, and once more after it if they failed. Tests of the program begin when `rt ci` has proved and built it; those that
+measure time or memory, or whose waits are short, run after all others, two at once where there are four processors.
 
 A part that fails doesn't hide others. Its counts are those that it prints last; a part that prints none counts as one. The clock
 of a row is the sum of its parts', that of the last line is the gate's; the row of the proofs has all minutes of `rt ci`.

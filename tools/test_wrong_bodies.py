@@ -217,7 +217,7 @@ class Kept(Case):
         """How many checks a run takes, and whether the edit is refused."""
         self.checks, (edits, _) = 0, wrong_bodies.read_edits([])
         refusals = kept.Refusals(self.root, wrong_bodies.libraries_below(), self.kit, is_read)
-        results = wrong_bodies.try_crate(edits, {}, refusals, lambda result: None)
+        results = wrong_bodies.try_crate(edits, {}, None, refusals, lambda result: None)
         return self.checks, [is_refused for is_refused, _ in results.values()] == [True]
 
     def test_a_refusal_that_stands_is_kept_while_nothing_changes(self):

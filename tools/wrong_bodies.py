@@ -6,7 +6,8 @@
 tries those of these crates, or these, or all; CONTRIBUTING.md has their form. With --reasons it prints for each what its function
 lacks. A refusal that stands is kept (tools/kept.py); --from-nothing tries it all the same. With --beside, for work beside `rt ci`,
 FOLDER/NAME holds the library of the crate NAME once the standard input has a line NAME, and until that input ends, checks leave
-processors and memory to `rt ci` (tools/lanes.py). Without, libraries are built.
+processors and memory to `rt ci` (tools/lanes.py): those of a crate run beside its own proof, and count once it has one. Without,
+libraries are built.
 
 All edits of a crate are tried in one check of a copy of the crate, since the prover goes on after a refusal. A second edit of a
 function changes a twin of it. All other functions are blank, with a body whose proof fails at once. An edit counts as refused
@@ -145,7 +146,8 @@ def check(folder, functions):
 
 
 def copy_of(crate, built, room):
-    """Copies what checks of the crate read, with the proofs that were kept, and links the libraries from their folders."""
+    """Copies what checks of the crate read, and links the libraries from their folders. Beside `rt ci`, which has its way with them,
+    the proofs that were kept are left."""
     left_out = shutil.ignore_patterns("out", "wrong-bodies", "must-fail")
     shutil.copytree(ROOT / "crates", room / "crates", ignore=left_out)
     for name in ("crates.txt", "HANDLES"):
@@ -155,7 +157,7 @@ def copy_of(crate, built, room):
     for name, folder in built.items():
         (room / "crates" / name / "out" / "rlib").symlink_to(folder)
     kept = pathlib.Path("crates", crate, "out", "incremental")
-    if (ROOT / kept).is_dir():
+    if LANES.is_quiet.is_set() and (ROOT / kept).is_dir():
         shutil.copytree(ROOT / kept, room / kept)
     return room / "crates" / crate
 
@@ -255,8 +257,9 @@ def results_of(edits, built):
                 yield try_group([edit], folder, is_alone=True)
 
 
-def try_crate(edits, libraries, kept, show):
-    """Tries the edits of a crate once its libraries are there, but for those whose refusal is kept; shows what each check showed."""
+def try_crate(edits, libraries, own, kept, show):
+    """Tries the edits of a crate once the libraries below it are there, but for those whose refusal is kept; shows what each check
+    showed, once its own library is there too, if that is made meanwhile."""
     tried = {}
 
     def take(results):
@@ -268,6 +271,7 @@ def try_crate(edits, libraries, kept, show):
         tell([f"{edits[0].crate}: {len(tried)} of {len(edits)} kept"], sys.stderr)
         if left := [edit for edit in edits if edit not in tried]:
             for results in results_of(left, {name: library.result() for name, library in libraries.items()}):
+                own and own.result()
                 take(results)
                 kept.keep({edit: why for edit, (is_refused, why) in results.items() if is_refused})
     except Exception as why:
@@ -311,7 +315,7 @@ def read_edits(wanted):
 
 def try_all(edits, below, beside, attempt):
     """Tries the edits of several crates at once, those of most edits first. A crate waits for those that it stands on, and for
-    its own library if that is made meanwhile: a folder that is being written can't be copied."""
+    its own library if that is built here: a folder that is being written can't be copied."""
     of_crate, tried = {}, {}
     for edit in edits:
         of_crate.setdefault(edit.crate, []).append(edit)
@@ -322,9 +326,10 @@ def try_all(edits, below, beside, attempt):
         else:
             order = dict.fromkeys(low for crate in of_crate for low in below[crate])
             libraries = {crate: builder.submit(build, crate) for crate in order}
-        awaited = lambda crate: {low: libraries[low] for low in (*below[crate], crate) if low in libraries}
+        first = lambda crate: below[crate] if beside else [*below[crate], crate]
+        awaited = lambda crate: {low: libraries[low] for low in first(crate) if low in libraries}
         most_first = sorted(of_crate, key=lambda crate: -len(of_crate[crate]))
-        for result in pool.map(lambda crate: attempt(of_crate[crate], awaited(crate)), most_first):
+        for result in pool.map(lambda crate: attempt(of_crate[crate], awaited(crate), libraries.get(crate)), most_first):
             tried |= result
     return tried
 
@@ -346,7 +351,7 @@ def main(words):
     kept = Refusals(ROOT, below, kit, not given.from_nothing)
     lines = lambda result: [f"{it}: {why}" for it, (is_refused, why) in result.items() if given.reasons or not is_refused]
     show = lambda result: tell(lines(result), sys.stdout)
-    tried = try_all(edits, below, given.beside, lambda edits, libraries: try_crate(edits, libraries, kept, show))
+    tried = try_all(edits, below, given.beside, lambda edits, libraries, own: try_crate(edits, libraries, own, kept, show))
     refused = sum(is_refused for is_refused, _ in tried.values())
     failed = len(bad) + len(edits) - refused
     tell([f"{refused} passed, {failed} failed"], sys.stdout)
