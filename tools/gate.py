@@ -45,8 +45,8 @@ QUICK = {
     "program": (), "requests": (), "check": (), "replays": ("--scripts", "200", "--pages", "257"), "log": (),
     "attack": ("--memory", "100000"),
 }
-# tests that measure time or memory, or that wait for a second or two only: none of the others runs beside them, and of these at most
-# one, which leaves each two processors
+# tests that measure time or memory, or that wait for a second or two only: nothing else runs beside them, and each has so many
+# processors
 ALONE, PROCESSORS_ALONE = {"attack", "crawl_memory", "crawling", "log"}, 2
 # tests that want the built tests of a crate
 AFTER_CI = {"refusals"}

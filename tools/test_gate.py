@@ -166,6 +166,16 @@ class Beside(Case):
         self.run_all(alone, self.ci("hole"), beside, slow, program=lambda: ("hole", True), jobs=2)
         self.assertEqual(self.counts(), {"proofs": (3, 0), PROGRAM: (2, 0)})
 
+    def test_those_alone_run_two_at_once_where_there_are_four_processors(self):
+        for processors, most in ((4, "2"), (2, "1")):
+            room = pathlib.Path(self.enterContext(tempfile.TemporaryDirectory()))
+            script = f"cd {room}; touch $$; sleep 0.5; ls | wc -l >> ../{room.name}.most; rm $$; echo 1 passed, 0 failed"
+            with mock.patch.object(os, "sched_getaffinity", lambda _, count=processors: range(count)):
+                self.run_all(*(part(name, PROGRAM, script, is_alone=True) for name in "abc"), jobs=2)
+            seen = room.with_suffix(".most")
+            self.addCleanup(seen.unlink)
+            self.assertEqual((self.counts()[PROGRAM], max(seen.read_text().split())), ((3, 0), most))
+
     def test_what_waits_for_a_program_that_is_never_proved_runs_in_the_end(self):
         late = part("refusals", PROGRAM, "echo 1 passed, 0 failed", gate.PROGRAM)
         self.run_all(late, part("ci", "proofs", "echo rt: hole NOT PROVED; exit 1"), program=lambda: ("hole", True))

@@ -7,6 +7,7 @@ import sys
 import tempfile
 import time
 import unittest
+from concurrent.futures import Future
 from unittest import mock
 
 TOOLS = pathlib.Path(__file__).resolve().parent
@@ -204,6 +205,7 @@ class Kept(Case):
 
     def setUp(self):
         self.said, self.kit, self.during = "fn above::third: no proof: `search` did not prove `returns`\n", "13", lambda: None
+        self.own = None
         self.repository({}, {"one": ONE_TOO_FEW})
         self.enterContext(mock.patch.multiple(wrong_bodies, ROOT=self.root, check=self.check, tell=lambda *_: None))
         self.enterContext(mock.patch.dict(os.environ, HOLE_GATE_CACHE=str(self.root / "kept")))
@@ -217,7 +219,7 @@ class Kept(Case):
         """How many checks a run takes, and whether the edit is refused."""
         self.checks, (edits, _) = 0, wrong_bodies.read_edits([])
         refusals = kept.Refusals(self.root, wrong_bodies.libraries_below(), self.kit, is_read)
-        results = wrong_bodies.try_crate(edits, {}, None, refusals, lambda result: None)
+        results = wrong_bodies.try_crate(edits, {}, self.own, refusals, lambda result: None)
         return self.checks, [is_refused for is_refused, _ in results.values()] == [True]
 
     def test_a_refusal_that_stands_is_kept_while_nothing_changes(self):
@@ -242,6 +244,11 @@ class Kept(Case):
     def test_what_is_not_refused_is_not_kept(self):
         self.said = "fn above::third: proved\n"
         self.assertEqual([self.tried(), self.tried()], [(2, False), (2, False)])
+
+    def test_what_is_refused_in_a_crate_that_is_not_proved_is_not_kept(self):
+        self.own = Future()
+        self.own.set_exception(RuntimeError("above is not proved"))
+        self.assertEqual([self.tried(), self.tried()], [(1, False), (1, False)])
 
     def test_a_source_that_changes_during_the_check_has_nothing_kept(self):
         source = self.root / "crates/small/src/lib.rt"
