@@ -1,8 +1,11 @@
 """Source files cut into their functions, and functions with other bodies: what tools/wrong_bodies.py writes."""
+import pathlib
 import re
 
 HEAD = r"(?:pub(?:\(\w+\))? )?(?:const )?fn (?=\w)"
-FUNCTION = re.compile(rf"(?ms)^( *){HEAD}.*?^\1\}}\n")
+# A method of a trait that has no body: no line of it ends in an opening brace, and the last ends in a semicolon.
+NO_BODY = r"(?:[^\n]*[^{\n]\n)*?[^\n]*;\n"
+FUNCTION = re.compile(rf"(?ms)^( *){HEAD}(?!{NO_BODY}).*?^\1\}}\n")
 
 
 def pieces(text):
@@ -15,6 +18,18 @@ def names_in(piece):
     return re.findall(rf"(?m)^ *{HEAD}(\w+)", piece)
 
 
+def path_of(file, before, function):
+    """The path of a function below its crate, as a check prints it, from its source file and what stands there before it."""
+    path = [part for part in pathlib.PurePath(file).with_suffix("").parts[1:] if part not in ("lib", "main")]
+    if function.startswith(" "):
+        head = re.findall(r"(?m)^(?:impl|pub trait|trait)\b.*", before)[-1]
+        generics, of_trait, of_type = re.match(r"(?:impl(<.*?>)?|pub trait|trait) (?:(.*) for )?(\w+)", head).groups()
+        of_impl = re.findall(r"[<,] *(\w+)", generics or "")
+        words = [word for word in re.findall(r"(?<![\w'])\w+(?!\w*::)", of_trait or "") if word not in of_impl]
+        path.append(of_type + "".join(word[0].upper() + word[1:] for word in words))
+    return "::".join([*path, *names_in(function)])
+
+
 def is_in_cycle(function, before):
     """Whether a function calls itself, or is declared to be in a cycle of calls by what stands before it."""
     name = re.search(r"\bfn (\w+)", function)[1]
@@ -22,13 +37,14 @@ def is_in_cycle(function, before):
 
 
 def blank(function):
-    """A function with a body that no contract allows, for which no proof is sought. A piece may begin with methods of a trait
-    that have no body."""
+    """A function with a body that no contract allows, for which no proof is sought."""
     indent = re.match(" *", function)[0]
-    last = [*re.finditer(rf"(?m)^{indent}{HEAD}", function)][-1].start()
-    opened = re.compile(rf"(?m)^{indent}\{{$").search(function, last) or re.compile(r"(?m) \{$").search(function, last)
-    head = f"{function[:last]}{indent}#[tactic(none)]\n{function[last:opened.end()]}"
-    return f"{head}\n{indent}    unreachable!()\n{indent}}}\n"
+    opened = re.search(rf"(?m)^{indent}\{{$", function) or re.search(r"(?m) \{$", function)
+    return f"{indent}#[tactic(none)]\n{function[:opened.end()]}\n{indent}    unreachable!()\n{indent}}}\n"
+
+
+def is_blank(function):
+    return re.search(r"\{\n *unreachable!\(\)\n *\}\n\Z", function) is not None
 
 
 def without_tactic(before):
@@ -36,7 +52,11 @@ def without_tactic(before):
     return re.sub(r"(?m)^ *#\[tactic\([^\]]*\)\]\n(?=(?: *(?:#\[|//).*\n)*\Z)", "", before)
 
 
+def attributes_of(before):
+    """The lines of attributes at the end of what stands before a function."""
+    return re.search(r"((?:^ *#\[.*\n)*)\Z", before, re.M)[1]
+
+
 def twin_of(before, new, twin):
     """A function once more with another body, under the name of its twin, behind the attributes of the function."""
-    attributes = re.search(r"((?:^ *#\[.*\n)*)\Z", before, re.M)[1]
-    return "\n" + attributes, re.sub(rf"^( *{HEAD})\w+", rf"\g<1>{twin}", new, count=1)
+    return "\n" + attributes_of(before), re.sub(rf"^( *{HEAD})\w+", rf"\g<1>{twin}", new, count=1)

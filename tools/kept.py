@@ -7,6 +7,7 @@ import contextlib
 import hashlib
 import os
 import pathlib
+import re
 
 TOOLS = pathlib.Path(__file__).resolve().parent
 TOOL = [(TOOLS / name).read_bytes() for name in ("wrong_bodies.py", "functions.py", "answers.py", "lanes.py", "kept.py")]
@@ -32,13 +33,15 @@ class Refusals:
         self.sums = {}  # of each edit, as it was before its check
 
     def crate(self, name):
-        """The sum of what each check of a crate reads: the kit, the tool, the sources of the crate and of those below it."""
-        files = [self.root / "crates.txt", self.root / "HANDLES"]
-        for crate in [*self.below[name], name]:
+        """The sum of what each check of a crate reads: the kit, the tool, the crate and those below it, with their lines of
+        crates.txt."""
+        crates, files = [*self.below[name], name], [self.root / "HANDLES"]
+        for crate in crates:
             for part in ("src", "specs", "proofs"):
                 files += sorted((self.root / "crates" / crate / part).rglob("*"))
         read = [(str(file.relative_to(self.root)), sum_of(file.read_bytes())) for file in files if file.is_file()]
-        return sum_of(self.kit, TOOL, name, read)
+        lines = [line for line in (self.root / "crates.txt").read_text().splitlines() if re.match(r"\w*", line)[0] in crates]
+        return sum_of(self.kit, TOOL, name, lines, read)
 
     def known(self, edits):
         """What the functions of those of a crate's edits lack whose refusal is kept."""

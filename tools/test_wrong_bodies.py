@@ -97,7 +97,18 @@ DECLARED, OPENED = "    fn of() -> u32;\n}\n\nimpl Of for Small {\n", "    fn of
 # functions, and what they are with a body that no contract allows
 BLANKS = (
     (AFTER_NEXT, "#[tactic(none)]\n" + AFTER_NEXT.replace("next(next(number))", "unreachable!()")),
-    (f"{DECLARED}{OPENED}        1\n    }}\n", f"{DECLARED}    #[tactic(none)]\n{OPENED}        unreachable!()\n    }}\n"),
+    (f"{OPENED}        1\n    }}\n", f"    #[tactic(none)]\n{OPENED}        unreachable!()\n    }}\n"),
+)
+# a source file, what stands in it before a function, the function, and its path
+PATHS = (
+    ("src/lib.rt", "", AFTER_NEXT, "after_next"),
+    ("src/menu/line.rt", "", AFTER_NEXT, "menu::line::after_next"),
+    ("src/menu.rt", "impl<'a> Line<'a> {\n", METHOD, "menu::Line::of"),
+    ("src/menu.rt", "pub trait Of {\n", METHOD, "menu::Of::of"),
+    ("src/menu.rt", "impl Of for Line {\n}\n\nimpl fmt::Display for Line {\n", METHOD, "menu::LineDisplay::of"),
+    ("src/menu.rt", "impl<S: Read> Read for Line<S> {\n", METHOD, "menu::LineRead::of"),
+    ("src/menu.rt", "impl<T: Drop> From<Vec<u8>> for Line<T> {\n", METHOD, "menu::LineFromVecU8::of"),
+    ("src/menu.rt", "impl<'a, T> From<Refused<'a, T>> for Line {\n", METHOD, "menu::LineFromRefused::of"),
 )
 TACTIC = "    #[tactic(auto, using(crate::proofs::Low::less))]\n"
 # what stands before a function, with and without the tactic that it asks for
@@ -172,6 +183,14 @@ class Pieces(Case):
         for before, without in TACTICS:
             self.assertEqual(wrong_bodies.without_tactic(before), without)
 
+    def test_a_method_without_a_body_is_no_function(self):
+        method = f"{OPENED}        1\n    }}\n"
+        self.assertEqual(wrong_bodies.pieces(f"{DECLARED}{method}}}\n"), [DECLARED, method, "}\n"])
+
+    def test_paths_of_functions_are_those_that_a_check_prints(self):
+        for file, before, function, path in PATHS:
+            self.assertEqual(wrong_bodies.path_of(file, before, function), path)
+
     def test_methods_of_traits_and_functions_of_a_cycle_have_no_twin(self):
         for before, function, may in TWINS:
             self.assertEqual(wrong_bodies.may_have_twin("small", "of", [before, function], 1), may, before + function)
@@ -183,6 +202,7 @@ class Pieces(Case):
 
     def test_a_copy_has_the_places_of_its_edits_and_the_proofs_of_what_is_left(self):
         self.repository({"one": ONE_TOO_MANY, "two": ONE_TOO_FEW_AGAIN})
+        self.write("crates/small/src/lib.rt", SOURCE.replace("pub fn next(", "#[inline]\npub fn next("))
         self.enterContext(mock.patch.multiple(wrong_bodies, ROOT=self.root))
         for name in ("next/Answers", "after_next/Answers", "Lemmas"):
             self.write(f"crates/small/proofs/{name}.antt", "use Rattle.small.proofs.next.Goals as goal\n")
@@ -191,13 +211,15 @@ class Pieces(Case):
         found, stands = wrong_bodies.write(edits, copy, is_alone=False)
         self.assertEqual(found, {"next": edits[0], "next_of_two": edits[1]})
         lines = {function: [line for (_, line), it in stands.items() if it == function] for function in found}
-        self.assertEqual(lines, {"next": [*range(7, 13)], "next_of_two": [*range(14, 20)]})
+        self.assertEqual(lines, {"next": [*range(7, 14)], "next_of_two": [*range(15, 22)]})
         text = (copy / "src/lib.rt").read_text()
         self.assertEqual(text.count("unreachable!()"), 1)
         self.assertIn("pub fn next_of_two(number: u32) -> u32\n    requires { number < 1000 }\n", text)
         left = {str(file.relative_to(copy / "proofs")): file.read_text() for file in (copy / "proofs").rglob("*.antt")}
-        self.assertEqual(sorted(left), ["Lemmas.antt", "next/Answers.antt", "next_of_two/Answers.antt"])
-        self.assertEqual(left["next_of_two/Answers.antt"], "use Rattle.small.proofs.next_of_two.Goals as goal\n")
+        self.assertEqual(sorted(left), ["Lemmas.antt", "after_next/Answers.antt", "next/Answers.antt", "next_of_two/Answers.antt"])
+        no_offer = wrong_bodies.NO_OFFER
+        self.assertEqual(left["next_of_two/Answers.antt"], f"use Rattle.small.proofs.next_of_two.Goals as goal\n{no_offer}")
+        self.assertEqual(left["after_next/Answers.antt"], no_offer)
 
 
 class Kept(Case):
@@ -230,7 +252,7 @@ class Kept(Case):
         for name in ("small/src/lib.rt", "above/src/lib.rt", "small/specs/S.antt", "above/proofs/third/Proof.antt"):
             file = self.root / "crates" / name
             turned[f"crates/{name}"] = (file.read_text() if file.exists() else "") + "\n"
-        turned |= {name: (self.root / name).read_text() + "\n" for name in ("crates.txt", "HANDLES")}
+        turned |= {"crates.txt": "small: memchr\nabove: small\n", "HANDLES": "Handles allowed: Net.\n"}
         for file, text in turned.items():
             self.tried()
             self.assertEqual(self.tried(), (0, True), file)
@@ -240,6 +262,11 @@ class Kept(Case):
         self.assertEqual([self.tried(), self.tried()], [(1, True), (0, True)])
         with mock.patch.object(kept, "TOOL", [b"another"]):
             self.assertEqual(self.tried(), (1, True))
+
+    def test_the_line_of_another_crate_has_nothing_tried_again(self):
+        self.tried()
+        self.write("crates.txt", "small:\nabove: small\nbeside: small\n")
+        self.assertEqual(self.tried(), (0, True))
 
     def test_what_is_not_refused_is_not_kept(self):
         self.said = "fn above::third: proved\n"

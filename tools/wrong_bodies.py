@@ -27,7 +27,7 @@ import threading
 from concurrent.futures import Future, ThreadPoolExecutor
 
 from answers import is_proved, lacking
-from functions import blank, is_in_cycle, names_in, pieces, twin_of, without_tactic
+from functions import attributes_of, blank, is_blank, is_in_cycle, names_in, path_of, pieces, twin_of, without_tactic
 from kept import Refusals
 from lanes import Lanes
 
@@ -35,6 +35,9 @@ ROOT = pathlib.Path(os.environ.get("ROOT") or pathlib.Path(__file__).resolve().p
 LANES = Lanes()
 CLAUSE = re.compile(r"(?m)^ *(?:ensures|requires|ghost)\b.*$")
 OWN_PROOFS = ("Answers", "Invariants", "Proof")
+# An answer that is none. Without a wrong one, a check that leaves a goal of a function open loads everything once more, to offer
+# what to write for it.
+NO_OFFER = "\npub no-offer : no-offer\nno-offer = no-offer\n"
 
 
 class BadEdit(Exception):
@@ -95,7 +98,7 @@ def may_have_twin(crate, function, text, at):
     """Whether a function may stand twice: it is no method of a trait, in no cycle, and no closure or lemma of it has proof files."""
     around = re.findall(r"(?m)^(?!//)(\S.*)$", "".join(text[:at])) if text[at].startswith(" ") else []
     is_of_trait = around and not re.match(r"impl\b(?!.* for )", around[-1])
-    if is_in_cycle(text[at], text[at - 1]) or len(names_in(text[at])) > 1 or is_of_trait:
+    if is_in_cycle(text[at], text[at - 1]) or is_of_trait:
         return False
     folder, name = ROOT / "crates" / crate, function.rpartition("::")[2]
     own = [it for it in (folder / proofs_of(function)).rglob("*") if it.stem not in OWN_PROOFS]
@@ -134,7 +137,7 @@ def words_of_check(folder, functions):
     rtlib, only = toolchain(), [word for function in functions for word in ("--only", function)]
     crate = next(it for it in rtlib.crates_below(str(folder.parent.parent)) if it.name == folder.name)
     tests = ["--test"] if crate.has_tests() else []
-    return [rtlib.RATTLE, "check", *crate.words(["--jobs", "1", *only, *tests], keeps=False), *rtlib.KEPT]
+    return [rtlib.RATTLE, "check", *crate.words(["--jobs", "1", *only, *tests], keeps=False)]
 
 
 def check(folder, functions):
@@ -146,8 +149,7 @@ def check(folder, functions):
 
 
 def copy_of(crate, built, room):
-    """Copies what checks of the crate read, and links the libraries from their folders. Beside `rt ci`, which has its way with them,
-    the proofs that were kept are left."""
+    """Copies what checks of the crate read, and links the libraries from their folders."""
     left_out = shutil.ignore_patterns("out", "wrong-bodies", "must-fail")
     shutil.copytree(ROOT / "crates", room / "crates", ignore=left_out)
     for name in ("crates.txt", "HANDLES"):
@@ -156,9 +158,6 @@ def copy_of(crate, built, room):
         (other / "out").mkdir()
     for name, folder in built.items():
         (room / "crates" / name / "out" / "rlib").symlink_to(folder)
-    kept = pathlib.Path("crates", crate, "out", "incremental")
-    if LANES.is_quiet.is_set() and (ROOT / kept).is_dir():
-        shutil.copytree(ROOT / kept, room / kept)
     return room / "crates" / crate
 
 
@@ -194,15 +193,35 @@ def write(edits, folder, is_alone):
             for at, new in edit.changes.items() if edit.file == str(file) else ():
                 changed.setdefault(at, []).append((edit, new))
         parts = parts_of(pieces(path.read_text()), changed, is_alone, found, left)
+        before = ""
         for part, function in parts:
             end = line + part.count("\n")
-            stands.update({(str(file), at): function for at in range(line, end) if function})
-            line = end
+            begin = line - attributes_of(before).count("\n")
+            stands.update({(str(file), at): function for at in range(begin, end) if function})
+            line, before = end, part
         (folder / file).write_text("".join(part for part, _ in parts))
     write_proofs(crate / "proofs", folder / "proofs", left)
     for function, edit in found.items():
         write_twins_proofs(folder, edit.function, function)
+    for function in [] if is_alone else [*found, *blanks_of(folder)]:
+        refuse_offers(folder / proofs_of(function))
     return found, stands
+
+
+def blanks_of(folder):
+    """The paths of a copy's blank functions."""
+    found = []
+    for path in (folder / "src").rglob("*.rt"):
+        parts, file = pieces(path.read_text()), path.relative_to(folder)
+        found += [path_of(file, "".join(parts[:at]), parts[at]) for at in range(1, len(parts), 2) if is_blank(parts[at])]
+    return found
+
+
+def refuse_offers(proofs):
+    """Writes an answer that is none among those of a function."""
+    proofs.mkdir(parents=True, exist_ok=True)
+    with (proofs / "Answers.antt").open("a") as answers:
+        answers.write(NO_OFFER)
 
 
 def write_proofs(own, copied, left):
@@ -240,8 +259,7 @@ def try_group(edits, folder, is_alone):
 
 def results_of(edits, built):
     """What became of some edits of a crate, check by check: of all together, but for second edits of a function that has no twin,
-    and then of each that wasn't refused there. The checks follow one another in one copy, so that each begins with the lemmas that
-    those before it proved."""
+    and then of each that wasn't refused there."""
     together, taken = [], set()
     for edit in edits:
         places = {(edit.file, at) for at in edit.changes}
@@ -271,7 +289,8 @@ def try_crate(edits, libraries, own, kept, show):
         tell([f"{edits[0].crate}: {len(tried)} of {len(edits)} kept"], sys.stderr)
         if left := [edit for edit in edits if edit not in tried]:
             for results in results_of(left, {name: library.result() for name, library in libraries.items()}):
-                own and own.result()
+                if own:
+                    own.result()
                 take(results)
                 kept.keep({edit: why for edit, (is_refused, why) in results.items() if is_refused})
     except Exception as why:
