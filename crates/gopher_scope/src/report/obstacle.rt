@@ -98,8 +98,7 @@ fn read_names<R: Files + AllocGlobal + Clone + Drop>(rt: &R, folder: Path<'_>) -
 
 // Reads the names of a folder, or opens a file.
 fn read_at<R: Files>(rt: &R, alloc: Global, path: Path<'_>) -> io::Result<()> {
-    let found = fs::metadata(rt, path)?;
-    if found.is_dir() {
+    if fs::metadata(rt, path)?.is_dir() {
         return read_names(&(rt, alloc), path);
     }
     let _ = fs::open(rt, path)?;
