@@ -205,12 +205,7 @@ impl Joined {
         ensures joined { JoinsTo 1 self.old self.new result }
     {
         self.clear(part.pages().len())?;
-        let Joined {
-            verdicts,
-            scores,
-            ..
-        } = self;
-        join_first(part, &groups[0], verdicts, scores);
+        join_first(part, &groups[0], &mut self.verdicts, &mut self.scores);
         self.groups = 1;
         Ok(())
     }
@@ -251,5 +246,21 @@ impl Joined {
             self.join(part, groups);
         }
         Ok(())
+    }
+
+    /// Joins the next group or, if the part is a page that was found, all groups that are left.
+    pub fn join_next(&mut self, part: &Part, groups: &[Group]) -> Result<(), NoMemory>
+        requires few { wanted_in groups.now ≤ MAX_LINE }
+        requires ahead { self.old.groups < length groups.now }
+        requires begun { AreBegun groups.now part.now.pages self.old }
+        ensures cells { OnOk result (AreJoined groups.now part.now.pages self.new) }
+        ensures joined { JoinsTo self.new.groups self.old self.new result }
+        ensures more { OnOk result (self.old.groups < self.new.groups) }
+    {
+        let end = match part.as_segment() {
+            Some(_) => self.groups + 1,
+            None => groups.len(),
+        };
+        self.join_to(end, part, groups)
     }
 }

@@ -1,9 +1,10 @@
 //! Searches that are done in steps, so that a thread can serve others in between.
 
-ghost use Rattle.std.specs.Prelude.{◌≡◌, ◌<◌, None, Ok, length, IfOk, IfSome, OnErr};
+ghost use Rattle.std.specs.Prelude.{◌≡◌, ◌<◌, None, Ok, length, map, IfOk, IfSome, OnErr};
 ghost use Rattle.gopher_page.specs.Query.{IsQuery};
 ghost use Rattle.gopher_segment.specs.Segment.{pages_of};
 ghost use Rattle.gopher_index.specs.Answer.{answer_of};
+ghost use Rattle.gopher_index.specs.Best.{kept_hit};
 ghost use Rattle.gopher_index.specs.Searching.{AddsCells};
 
 use crate::best::{Best, Kept};
@@ -66,16 +67,23 @@ fn kept_with_cells(
     alloc: Global,
     kept: &[Kept],
     part: &Part,
-    verdicts: &[u16],
-    scores: &[u32],
+    joined: &Joined,
 ) -> Result<Vec<Kept>, NoMemory>
-    requires verdicts { length verdicts.now ≡ length part.now.pages }
-    requires scores { length scores.now ≡ length part.now.pages }
-    ensures { AddsCells part.now.pages verdicts.now scores.now kept.now result }
+    requires verdicts { length joined.now.verdicts.items ≡ length part.now.pages }
+    requires scores { length joined.now.scores.items ≡ length part.now.pages }
+    ensures { AddsCells part.now.pages joined.now.verdicts.items joined.now.scores.items
+        kept.now result }
 {
     let mut best = Best::of(alloc, kept)?;
-    rank_cells(part, verdicts, scores, &mut best)?;
+    rank_cells(part, &joined.verdicts, &joined.scores, &mut best)?;
     best.kept(alloc)
+}
+
+// Returns the hits of the kept candidates.
+fn hits_of(alloc: Global, kept: &[Kept]) -> Result<Vec<Hit>, NoMemory>
+    ensures { IfOk result (λ hits. hits.items ≡ map kept_hit kept.now) }
+{
+    Best::of(alloc, kept)?.hits(alloc)
 }
 
 impl Search {
@@ -119,24 +127,14 @@ impl Search {
             return Ok(None);
         }
         if self.done == self.parts.len() {
-            let hits = Best::of(self.alloc, &self.kept)?.hits(self.alloc)?;
-            return Ok(Some(hits));
+            return Ok(Some(hits_of(self.alloc, &self.kept)?));
         }
         let part = &self.parts[self.done];
         if self.joined.groups < self.groups.len() {
-            let end = match part.as_segment() {
-                Some(_) => self.joined.groups + 1,
-                None => self.groups.len(),
-            };
-            self.joined.join_to(end, part, &self.groups)?;
+            self.joined.join_next(part, &self.groups)?;
             return Ok(None);
         }
-        let Joined {
-            verdicts,
-            scores,
-            ..
-        } = &self.joined;
-        self.kept = kept_with_cells(self.alloc, &self.kept, part, verdicts, scores)?;
+        self.kept = kept_with_cells(self.alloc, &self.kept, part, &self.joined)?;
         self.done += 1;
         self.joined.groups = 0;
         Ok(None)
