@@ -50,9 +50,8 @@ impl Book {
         ensures ok { OnOk result (self.new ≡ self.old ++ event_data event.now ∷ []) }
         ensures err { OnErr result (self.new ≡ self.old) }
     {
-        let event = event.clone()?;
         self.archive.reserve(1)?;
-        self.archive.add(event)?;
+        self.archive.add(event.clone()?)?;
         self.archive.settle();
         Ok(())
     }

@@ -91,14 +91,15 @@ impl Frontier {
         ensures ok { IfOk result (Learns opening.now page.now.links self.old self.new) }
         ensures err { OnErr result (KeepsFrontier self.old self.new) }
     {
-        let none = Places::new(alloc);
-        let links = page.packed_links().unwrap_or(&none);
         let limit = opening.places() as usize;
         let before = self.known.len();
-        let Ok(dropped) = self
-            .known
-            .mention_links(alloc, opening.scope(), limit, links)
-        else {
+        let mentioned = {
+            let none = Places::new(alloc);
+            let links = page.packed_links().unwrap_or(&none);
+            self.known
+                .mention_links(alloc, opening.scope(), limit, links)
+        };
+        let Ok(dropped) = mentioned else {
             self.known.truncate(before);
             return Err(NoMemory);
         };
