@@ -6,7 +6,7 @@ use Rattle.std.specs.declared.io.traits.Take.{Take}
 use Rattle.std.specs.Io.Take.{take_limit, take_inner, take_remaining}
 use Rattle.gopher_tree.specs.Files.{File, total_bytes}
 use Rattle.std.specs.Option.{option_or}
-use Rattle.gopher_tree.specs.Fault.{file_fault, fault_after, files_fault, AddsFile}
+use Rattle.gopher_tree.specs.Fault.{file_fault, fault_after, AddsFile}
 use Rattle.gopher_tree.specs.Load.{StopsAt, StopsAtFolder, Lists, WalksTo, Loads, LoadsTo, IsUnreadable, Refuses}
 use Rattle.gopher_tree.specs.declared.fault.TreeFault.{TreeFault}
 use Rattle.gopher_tree.specs.declared.fault.TreeFault.TheVariants.{NoMemory}
@@ -15,9 +15,6 @@ use Rattle.gopher_tree.proofs.FaultLemmas.{option_or-none}
 
 option_or-both : (a b : Option TreeFault) → a ≡ None → b ≡ None → option_or a b ≡ None
 option_or-both a b h k = ap (λ t. option_or t b) h ∙ k
-
-option_or-some : (a b : Option TreeFault) (fault : TreeFault) → a ≡ Some fault → option_or a b ≡ Some fault
-option_or-some a b fault h = ap (λ t. option_or t b) h
 
 -- if neither a list nor the files after it have a fault, both together have none
 pub fault_after-append : (done files more : List File) → fault_after done files ≡ None → fault_after (done ++ files) more ≡ None → fault_after done (files ++ more) ≡ None
@@ -79,10 +76,6 @@ walks_file first trail path bytes (Err fault) at size total lists refused = (fir
 -- a folder with a fault
 pub stops_folder : (files : List File) (trail : Trail) (number : ℕ) (fault : TreeFault) → number ≡ length files → StopsAtFolder number trail fault → StopsAt files trail fault
 stops_folder files trail number fault same stops = inr (inl (subst (λ n. StopsAtFolder n trail fault) same stops))
-
--- the files that a walk lists have no fault
-pub faultless : (files : List File) → Lists [] files → files_fault files ≡ None
-faultless files (added, is, none) = ap files_fault is ∙ none
 
 -- what a walk leaves on a trail, on some trail
 pub loads_on : (trail : Trail) (result : Result (List File) TreeFault) → LoadsTo trail result → Loads result

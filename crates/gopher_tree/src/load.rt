@@ -73,8 +73,14 @@ impl Tree {
         ensures { WalksTo self trail.new result }
     {
         let number = self.number_of_files();
-        let is_root = path.is_empty();
-        let names = names_in(rt, alloc, folder, is_root, number, &mut trail.hidden)?;
+        let names = names_in(
+            rt,
+            alloc,
+            folder,
+            path.is_empty(),
+            number,
+            &mut trail.hidden,
+        )?;
         let mut tree = self;
         for name in names {
             tree = tree.through_name(rt, alloc, folder, path, name.as_str(), trail)?;
@@ -143,7 +149,6 @@ impl Tree {
     /// - `BadName` to `Twice` (20 to 25): a file has the fault, as in `Tree::of_files`
     /// - `LongSelector` (22), `TooBig` (23): a folder has the fault, with or without files
     /// - `NoMemory` (90)
-    #[tactic(auto, using(crate::proofs::LoadLemmas::loads_on))]
     pub fn load<R: Files>(rt: &R, alloc: Global, root: &str) -> Result<Tree, TreeFault>
         ensures { Loads result }
     {

@@ -72,8 +72,7 @@ fn push_child_line(
     push_front(kind, name, out)?;
     out.extend_from_slice(front)?;
     out.extend_from_slice(name)?;
-    push_server(home.host(), home.port(), out)?;
-    Ok(())
+    push_server(home.host(), home.port(), out)
 }
 
 // Appends a line for each name.

@@ -1,6 +1,6 @@
 //! `Tree`: its limits, its numbers, and how a file is added.
 
-ghost use Rattle.std.specs.Prelude.{◌≡◌, ◌||◌, ◌+◌, ◌≤◌, ◌<◌, ◌++◌, ◌∷◌, [], None, length, map, count_by, if◌then◌else◌, IfOk, IfErr};
+ghost use Rattle.std.specs.Prelude.{◌≡◌, ◌||◌, ◌+◌, ◌≤◌, ◌<◌, ◌++◌, ◌∷◌, [], None, length, map, count_by, if◌then◌else◌, IfOk, IfErr, OnOk};
 ghost use Rattle.std.specs.Option.{option_copied};
 ghost use Rattle.gopher_tree.specs.Path.{is_menu_path, leads_at};
 ghost use Rattle.gopher_tree.specs.Files.{is_file, is_folder, file_at, is_missing, menu_files, leads_through_file, nodes, nodes_with, is_path_among, AreNodes, total_bytes};
@@ -94,12 +94,21 @@ impl Tree {
         ensures { IfOk result (λ menus. map lent_file menus.items ≡ menu_files self.now) }
     {
         let mut menus = Vec::new(alloc);
+        self.push_menu_files(&mut menus)?;
+        Ok(menus)
+    }
+
+    // Appends the path and the bytes of each menu file to none.
+    fn push_menu_files<'a>(&'a self, menus: &mut Vec<(&'a [u8], &'a [u8])>) -> Result<(), NoMemory>
+        requires { menus.old.items ≡ [] }
+        ensures { OnOk result (map lent_file menus.new.items ≡ menu_files self.now) }
+    {
         for file in &self.files {
             if is_menu_path(file.path()) {
                 menus.push((file.path(), file.bytes()))?;
             }
         }
-        Ok(menus)
+        Ok(())
     }
 
     /// Returns how many of these paths are neither files nor folders of the tree.

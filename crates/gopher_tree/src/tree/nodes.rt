@@ -53,9 +53,18 @@ pub(crate) fn paths_in(alloc: Global, nodes: &Nodes) -> Result<Vec<&[u8]>, NoMem
     ensures { IfOk result (λ paths. ArePathsOf nodes.now (map (λ path. path.now) paths.items)) }
 {
     let mut paths = Vec::new(alloc);
+    push_paths(nodes, &mut paths)?;
+    Ok(paths)
+}
+
+// Appends the paths of the root and of all entries to no paths.
+fn push_paths<'a>(nodes: &'a Nodes, paths: &mut Vec<&'a [u8]>) -> Result<(), NoMemory>
+    requires { paths.old.items ≡ [] }
+    ensures { OnOk result (ArePathsOf nodes.now (map (λ path. path.now) paths.new.items)) }
+{
     paths.push(b"".as_slice())?;
     for path in nodes.keys() {
         paths.push(path.as_slice())?;
     }
-    Ok(paths)
+    Ok(())
 }

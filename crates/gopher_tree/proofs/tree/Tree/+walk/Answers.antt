@@ -1,4 +1,4 @@
-use Rattle.std.proofs.Common.{rules, ◌≡◌, true, string_bytes}
+use Rattle.std.proofs.Common.{rules, ◌≡◌, true, string_bytes, inr, refl}
 use Rattle.std.proofs.lemmas.List.Elements.{All-rest}
 use Rattle.std.specs.Vec.Iter.{into_iter_items}
 use Rattle.gopher_tree.specs.Load.{is_shown}
@@ -19,6 +19,15 @@ through_folder-returns-in_err-tree g t c = walks_on c.args.self c.loop-name.tree
 
 pub through_folder-loop-name-preserved : goal.through_folder-loop-name-preserved
 through_folder-loop-name-preserved g t c = (All-rest (λ name. is_shown (string_bytes name) ≡ true) c.in-Some.name (into_iter_items c.next.new.self) (into_iter_items c.loop-name.name-iterator) (search rules) c.loop-name.invariant.0, lists_more c.args.self c.loop-name.tree c.in_ok-tree.tree c.loop-name.invariant.1 (search rules))
+
+pub through_name-returns-in_default : goal.through_name-returns-in_default
+through_name-returns-in_default g t c = (c.args.self, lists_none c.args.self, inr (inr (inr refl)))
+
+pub through_name-returns-in_default-path_in : goal.through_name-returns-in_default-path_in
+through_name-returns-in_default-path_in g t c = (c.args.self, lists_none c.args.self, inr (inr (inr refl)))
+
+pub through_name-returns-in_default-reach : goal.through_name-returns-in_default-reach
+through_name-returns-in_default-reach g t c = (c.args.self, lists_none c.args.self, inr (inr (inr refl)))
 
 pub through_name-returns-in_err-target_of : goal.through_name-returns-in_err-target_of
 through_name-returns-in_err-target_of g t c =
