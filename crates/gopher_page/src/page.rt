@@ -120,9 +120,9 @@ fn page_of_menu(
     ensures { IfOk result (λ page. page ≡ menu_page scope.now (arc_value place.now) bytes.now) }
 {
     let menu = read_menu(alloc, bytes)?;
-    let links = links_of_entries(alloc, scope, &menu.entries)?;
+    let links = Arc::new(alloc, links_of_entries(alloc, scope, &menu.entries)?)?;
     let lines = entry_lines(alloc, &menu.entries)?;
-    page_of_lines(alloc, place, &lines, Some(Arc::new(alloc, links)?))
+    page_of_lines(alloc, place, &lines, Some(links))
 }
 
 fn page_of_text(alloc: Global, place: &Arc<Place>, bytes: &[u8]) -> Result<Page, NoMemory>

@@ -151,10 +151,11 @@ fn terms_from(
     ensures terms { IfOk result (λ all. all.items ≡ terms_from token.now is_prefix after.now) }
     ensures few { IfOk result (λ terms. length terms.items ≤ length after.now + 1) }
 {
+    let word = ByteString::lower_cased(alloc, token)?;
     let mut terms = Vec::new(alloc);
     terms.push(Term {
         operator: Operator::And,
-        word: ByteString::lower_cased(alloc, token)?,
+        word,
         is_prefix,
     })?;
     add_terms(alloc, after, &mut terms)?;

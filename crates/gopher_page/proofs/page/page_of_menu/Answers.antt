@@ -18,7 +18,7 @@ page_of_lines-requires-clause-short c =
 
 pub page_of_lines-requires-clause-few : goal.page_of_lines-requires-clause-few
 page_of_lines-requires-clause-few c =
-    let links : arc_value c.in_ok-new.field-0 ≡ menu_links c.args.scope.now c.args.bytes.now =
-    c.in_ok-new.ensures.ok ∙ c.in_ok-links.ensures ∙ ap (λ entries. distinct (filter (allows c.args.scope.now) (filter_map place_of_entry entries))) (c.deref.ensures.value ∙ c.in_ok-menu.ensures.all_entries)
+    let links : arc_value c.in_ok-links.links ≡ menu_links c.args.scope.now c.args.bytes.now =
+    c.in_ok-links.ensures.ok ∙ c.in_ok-links_of_entries.ensures ∙ ap (λ entries. distinct (filter (allows c.args.scope.now) (filter_map place_of_entry entries))) (c.deref.ensures.value ∙ c.in_ok-menu.ensures.all_entries)
     in
     omega (arith, c.requires.small, ap length links, few_menu_links c.args.scope.now c.args.bytes.now)
