@@ -6,7 +6,7 @@ use Rattle.gopher_catalogue.specs.declared.event.EventData.TheVariants.{Claimed}
 use Rattle.gopher_catalogue.specs.Step.{TurnData, Take, Idle, Finished, after_turn}
 use Rattle.gopher_catalogue.proofs.LegalSizes.{length-record_fits}
 use Rattle.gopher_crew.specs.Crew.{PublicationData, KeepsRecord}
-use Rattle.gopher_crew.specs.Kept.{rise_of, Later}
+use Rattle.gopher_crew.specs.Kept.{rise_of}
 use Rattle.gopher_crew.proofs.Prefixes.{prefix_self, prefix_push, prefix_trans}
 
 -- a record begins with the record before a turn
@@ -27,11 +27,3 @@ few_events record_ publication count kept = omega (arith, length-record_fits rec
 -- what was entered begins the record after a turn
 pub turn_keeps : (prefix record_ : List EventData) (turn : TurnData) → IsPrefix prefix record_ → IsPrefix prefix (after_turn record_ turn)
 turn_keeps prefix record_ turn begun = prefix_trans prefix record_ (after_turn record_ turn) begun (turn_grows record_ turn)
-
--- what holds on a record after a later one
-pub later_holds : (HoldsOn : List EventData → Type 0) (old between : List EventData) → IsPrefix old between → Later between HoldsOn → Later old HoldsOn
-later_holds HoldsOn old between seen later = record {
-  before = later.before;
-  begins = prefix_trans old between later.before seen later.begins;
-  holds = later.holds;
-}

@@ -18,7 +18,7 @@ pub mod share;
 
 use crate::crew::Crew;
 use crate::desk::blank::Blank;
-use crate::desk::kept::Kept;
+use crate::desk::kept::{Kept, events_after_first};
 use crate::desk::opening::{cut, writer_with_passes};
 use crate::desk::refusals::DeskRefused;
 use crate::desk::share::Share;
@@ -66,18 +66,6 @@ fn are_counts(passes: u32, shares: u32) -> bool
     1 <= passes && passes <= 16 && 1 <= shares && shares <= 16
 }
 
-fn refused(fault: DeskFault, catalogue: Catalogue, blank: Blank) -> DeskRefused
-    ensures fault { result.fault ≡ fault }
-    ensures catalogue { result.catalogue ≡ catalogue }
-    ensures blank { result.blank ≡ blank }
-{
-    DeskRefused {
-        fault,
-        catalogue,
-        blank,
-    }
-}
-
 // Makes the desk over a catalogue whose record was entered and is published. Appends its shares to
 // the list.
 fn start<C: Crew, R: Wait + Drop>(
@@ -101,7 +89,7 @@ fn start<C: Crew, R: Wait + Drop>(
     ensures shares { list.new.items ≡ shares_at catalogue shares }
     ensures whole { HasAll C.parts list.new.items }
 {
-    let events = catalogue.record().len() as u64 - 1;
+    let events = events_after_first(&catalogue);
     let Blank {
         count,
         head,
@@ -157,15 +145,27 @@ impl<C: Crew, R: Wait + Drop> Desk<C, R> {
         ensures blank_back { IfErr result (λ refused. ComesBack catalogue blank refused.blank) }
     {
         if !are_counts(passes, shares) {
-            return Err(refused(DeskFault::BadCount, catalogue, blank));
+            return Err(DeskRefused {
+                fault: DeskFault::BadCount,
+                catalogue,
+                blank,
+            });
         }
         let mut blank = blank;
         blank.enter(&rt, &catalogue);
         let Ok(mut list) = Vec::with_capacity(alloc, shares as usize) else {
-            return Err(refused(DeskFault::NoMemory, catalogue, blank));
+            return Err(DeskRefused {
+                fault: DeskFault::NoMemory,
+                catalogue,
+                blank,
+            });
         };
         let Ok(opening) = catalogue.opening().clone() else {
-            return Err(refused(DeskFault::NoMemory, catalogue, blank));
+            return Err(DeskRefused {
+                fault: DeskFault::NoMemory,
+                catalogue,
+                blank,
+            });
         };
         match writer_with_passes(alloc, &rt, catalogue.index(), blank.prefix(), passes) {
             Ok((writer, passes)) => {
@@ -174,7 +174,11 @@ impl<C: Crew, R: Wait + Drop> Desk<C, R> {
                 );
                 Ok((desk, passes, list))
             }
-            Err(fault) => Err(refused(fault, catalogue, blank)),
+            Err(fault) => Err(DeskRefused {
+                fault,
+                catalogue,
+                blank,
+            }),
         }
     }
 }

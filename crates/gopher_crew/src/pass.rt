@@ -62,6 +62,7 @@ impl<C: Crew> Model for Pass<C> {
 }
 
 // Enters the published version, shares it, and leaves.
+#[tactic(auto, using(crate::proofs::Publishing::looks))]
 fn take_version<C: Crew>(
     reader: VersionReader<C>,
     _nothing: (),

@@ -61,6 +61,14 @@ fn count<C: Crew>(turn: &Turn, share: &mut Share<C>, book: &mut Book<C>)
     }
 }
 
+/// Returns the number of events in a catalogue's record after the first.
+pub(crate) fn events_after_first(catalogue: &Catalogue) -> u64
+    requires { 0 < length catalogue.now }
+    ensures { length catalogue.now ≡ result + 1 }
+{
+    catalogue.record().len() as u64 - 1
+}
+
 impl<C: Crew, R: Wait + Drop> Kept<C, R> {
     /// What a desk keeps of a catalogue. Its whole record was entered and is published.
     pub(crate) fn new(
@@ -203,7 +211,7 @@ impl<C: Crew, R: Wait + Drop> Kept<C, R> {
     pub(crate) fn events(&self) -> u64
         ensures { length self.now.events ≡ result + 1 }
     {
-        self.catalogue.record().len() as u64 - 1
+        events_after_first(&self.catalogue)
     }
 
     /// Merges shares into one. Returns how many events they count: all of the record after the

@@ -115,7 +115,7 @@ pub fn cut<C: Crew>(
     let mut whole = whole;
     let first = whole.split_off(PARTS + 1 - u64::from(shares), events);
     list.push_reserved(Share::of(events, first, prefix.copy()));
-    for _index in 1..shares {
+    for _index in 0..shares - 1 {
         let part = whole.split_off(1, 0);
         list.push_reserved(Share::of(0, part, prefix.copy()));
     }

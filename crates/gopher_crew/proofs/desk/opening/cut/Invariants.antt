@@ -4,8 +4,8 @@ use Rattle.gopher_crew.proofs.desk.opening.cut.Given as goal
 
 abbrev pub invariant-loop-index : goal.invariant-loop-index
 invariant-loop-index g l = record {
-  parts : l.whole.parts + l._index ≡ l.shares;
+  parts : l.whole.parts + l._index + 1 ≡ l.shares;
   amount : l.whole.amount ≡ 0;
-  list : l.list.items ≡ record { events = l.events; parts = 17 - l.shares; seen = l.prefix.events } ∷ replicate (l._index - 1) (record { events = 0; parts = 1; seen = l.prefix.events });
+  list : l.list.items ≡ record { events = l.events; parts = 17 - l.shares; seen = l.prefix.events } ∷ replicate l._index (record { events = 0; parts = 1; seen = l.prefix.events });
   room : l.shares ≤ vec_capacity l.list;
 }
