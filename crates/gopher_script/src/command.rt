@@ -1,4 +1,4 @@
-//! The commands of a script, as values.
+//! The commands of a script, as values, and the places, rules and queries that they make.
 
 ghost use Rattle.std.specs.Prelude.{◌≡◌, ◌≤◌, length};
 ghost use Rattle.gopher_item.specs.Fault.{Makes};

@@ -73,14 +73,8 @@ impl Tree {
         ensures { WalksTo self trail.new result }
     {
         let number = self.number_of_files();
-        let names = names_in(
-            rt,
-            alloc,
-            folder,
-            path.is_empty(),
-            number,
-            &mut trail.hidden,
-        )?;
+        let is_root = path.is_empty();
+        let names = names_in(rt, alloc, folder, is_root, number, &mut trail.hidden)?;
         let mut tree = self;
         for name in names {
             tree = tree.through_name(rt, alloc, folder, path, name.as_str(), trail)?;

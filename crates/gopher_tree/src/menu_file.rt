@@ -2,9 +2,12 @@
 
 ghost use Rattle.std.specs.Prelude.{◌≡◌, ◌∷◌};
 ghost use Rattle.gopher_item.specs.Menu.{fields_of};
+ghost use Rattle.gopher_tree.specs.Fault.{menu_fault};
 ghost use Rattle.gopher_tree.specs.MenuFile.{is_item, line_of_fields, server_of, written_item, written_line, bad_line, written_menu, sent_line, line_data, server_data, Gives};
 ghost use Rattle.gopher_tree.specs.Reply.{PutsLine, PutsLines};
 
+use crate::fault::TreeFault;
+use crate::tree::path::is_menu_path;
 use gopher_item::{
     Home, NoMemory, first_line, has_special, is_bad_type, is_host, is_selector, push_menu_line,
     read_number, split_once, trim_spaces,
@@ -90,7 +93,7 @@ pub fn written_line(line: &[u8]) -> Option<WrittenLine<'_>>
 }
 
 // The number of the first line, from 1, with none of the valid forms.
-pub(crate) fn bad_line(bytes: &[u8]) -> Option<usize>
+fn bad_line(bytes: &[u8]) -> Option<usize>
     ensures { result ≡ bad_line bytes.now }
 {
     let mut number = 0;
@@ -103,6 +106,17 @@ pub(crate) fn bad_line(bytes: &[u8]) -> Option<usize>
         rest = after;
     }
     None
+}
+
+// The fault of a file as a menu file, if it is one.
+pub(crate) fn menu_fault(number: usize, path: &[u8], bytes: &[u8]) -> Option<TreeFault>
+    ensures { result ≡ menu_fault number (path.now, bytes.now) }
+{
+    if !is_menu_path(path) {
+        return None;
+    }
+    let line = bad_line(bytes)?;
+    Some(TreeFault::BadMenuLine { file: number, line })
 }
 
 // Appends the line as a server with the address `home` sends it.

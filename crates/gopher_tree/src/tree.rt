@@ -4,7 +4,7 @@ ghost use Rattle.std.specs.Prelude.{◌≡◌, ◌||◌, ◌+◌, ◌≤◌, ◌
 ghost use Rattle.std.specs.Option.{option_copied};
 ghost use Rattle.gopher_tree.specs.Path.{is_menu_path, leads_at};
 ghost use Rattle.gopher_tree.specs.Files.{is_file, is_folder, file_at, is_missing, menu_files, leads_through_file, nodes, nodes_with, is_path_among, AreNodes, total_bytes};
-ghost use Rattle.gopher_tree.specs.Fault.{is_too_big, is_twice, menu_fault, file_fault, AddsFile, RefusesFile, MakesTree};
+ghost use Rattle.gopher_tree.specs.Fault.{is_too_big, is_twice, file_fault, AddsFile, RefusesFile, MakesTree};
 ghost use Rattle.gopher_tree.specs.Found.{file_data, lent_file};
 
 pub(crate) mod file;
@@ -14,7 +14,7 @@ pub(crate) mod path;
 pub(crate) mod selector;
 
 use crate::fault::TreeFault;
-use crate::menu_file::bad_line;
+use crate::menu_file::menu_fault;
 use crate::tree::file::File;
 use crate::tree::nodes::{Nodes, add_folders, paths_in, put};
 use crate::tree::path::{is_menu_path, path_fault};
@@ -276,15 +276,4 @@ impl Tree {
         }
         Ok(tree)
     }
-}
-
-// The fault of a file as a menu file, if it is one.
-fn menu_fault(number: usize, path: &[u8], bytes: &[u8]) -> Option<TreeFault>
-    ensures { result ≡ menu_fault number (path.now, bytes.now) }
-{
-    if !is_menu_path(path) {
-        return None;
-    }
-    let line = bad_line(bytes)?;
-    Some(TreeFault::BadMenuLine { file: number, line })
 }

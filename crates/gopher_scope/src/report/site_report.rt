@@ -1,10 +1,10 @@
 //! The report of a site without a fault: address, sizes, seeds, rules and warnings.
 
-ghost use Rattle.std.specs.Prelude.{◌++◌, codes, None, IfOk};
+ghost use Rattle.std.specs.Prelude.{IfOk};
 ghost use Rattle.std.specs.List.{flat_map};
 ghost use Rattle.gopher_scope.specs.Settings.{settings_data};
-ghost use Rattle.gopher_scope.specs.Lines.{Puts, words_line, address_lines, size_lines, seed_line, rule_lines, seeds_warning, counts_line, left_out, warnings};
-ghost use Rattle.gopher_scope.specs.Report.{IsReport, IsSoundReport};
+ghost use Rattle.gopher_scope.specs.Lines.{Puts, address_lines, size_lines, seed_line, rule_lines, seeds_warning, counts_line, left_out, warnings};
+ghost use Rattle.gopher_scope.specs.Report.{IsSoundReport};
 
 use super::fault_report::{Report, Reported};
 use super::lines::{push_address, push_count, push_number, push_server, push_words};
@@ -107,34 +107,6 @@ fn push_warnings(
     Ok(())
 }
 
-// Makes the report of a site without a fault, whose crawl has these seeds and rules.
-fn sound_report(
-    alloc: Global,
-    path: &[u8],
-    site: &Site<'_>,
-    seeds: &[Place],
-    allow: &[Rule],
-    deny: &[Rule],
-    trail: &Trail,
-) -> Reported
-    ensures { IfOk result (IsReport None (words_line (codes "settings: ") path.now
-        ++ address_lines site.now.home site.now.root ++ size_lines site.now.files
-        ++ flat_map seed_line seeds.now ++ rule_lines (codes "may visit: ") allow.now
-        ++ rule_lines (codes "may not visit: ") deny.now ++ warnings site.now seeds.now trail.now
-        ++ codes "sound\n")) }
-{
-    let mut words = Vec::new(alloc);
-    push_words(b"settings: ", path, &mut words)?;
-    push_home(site.home, site.root, &mut words)?;
-    push_sizes(site.tree, &mut words)?;
-    push_seeds(seeds, &mut words)?;
-    push_rules(b"may visit: ", allow, &mut words)?;
-    push_rules(b"may not visit: ", deny, &mut words)?;
-    push_warnings(alloc, site, seeds, trail, &mut words)?;
-    words.extend_from_slice(b"sound\n")?;
-    Ok(Report { words, fault: None })
-}
-
 /// Makes the report of a site without a fault. It names the settings file, the address, the root,
 /// the numbers of files, menu files and bytes, the seeds and the rules of its crawl, each on its
 /// own line, and warnings: lines of menus that lead nowhere, what isn't served, and a search
@@ -150,6 +122,15 @@ pub fn site_report(
 {
     let (allow, deny) = settings.scope.into_rules();
     let (home, root) = (&settings.home, settings.root.as_str());
+    let mut words = Vec::new(alloc);
+    push_words(b"settings: ", path, &mut words)?;
+    push_home(home, root, &mut words)?;
+    push_sizes(tree, &mut words)?;
+    push_seeds(&settings.seeds, &mut words)?;
+    push_rules(b"may visit: ", &allow, &mut words)?;
+    push_rules(b"may not visit: ", &deny, &mut words)?;
     let site = Site { home, root, tree };
-    sound_report(alloc, path, &site, &settings.seeds, &allow, &deny, trail)
+    push_warnings(alloc, &site, &settings.seeds, trail, &mut words)?;
+    words.extend_from_slice(b"sound\n")?;
+    Ok(Report { words, fault: None })
 }

@@ -1,5 +1,5 @@
-//! How many connections all server threads hold and accept together, and the fair share of one
-//! thread.
+//! The places for connections of all server threads: how many are taken, the quota of those that
+//! are still accepted, and the fair share of one thread.
 
 ghost use Rattle.std.specs.Prelude.{◌≡◌, ◌-◌, ◌<◌, ◌≤◌, max, nat_lt, true, false, None, Some, if◌then◌else◌};
 ghost use Rattle.gopher_server.specs.Places.{fair_share, max_places as most, may_accept, other_files};

@@ -1,6 +1,6 @@
 //! The log's line of a request, in which the bytes that a client sent are escaped.
 
-ghost use Rattle.std.specs.Prelude.{◌≡◌, ◌++◌, ◌<◌, OnOk, codes};
+ghost use Rattle.std.specs.Prelude.{◌≡◌, ◌++◌, ◌<◌, OnOk};
 ghost use Rattle.std.specs.Fmt.{decimal};
 ghost use Rattle.gopher_server.specs.RequestLine.{asked_bytes, escaped, hex_digit, is_plain, logged_bytes, moment_bytes, numbers_bytes, search_of, selector_of};
 
@@ -119,18 +119,6 @@ fn push_numbers(out: &mut Vec<u8>, sent: u64, micros: u64) -> Result<(), AllocEr
     push_number(out, micros)
 }
 
-// Appends when a request ended and its client's address, each before a TAB.
-fn push_client(out: &mut Vec<u8>, request: &RequestLine<'_>) -> Result<(), AllocError>
-    ensures { OnOk result (out.new.items ≡ out.old.items ++ moment_bytes request.now.ended
-        ++ codes "\t" ++ escaped request.now.peer ++ codes "\t") }
-{
-    push_moment(out, request.ended)?;
-    out.push(b'\t')?;
-    push_escaped(out, request.peer)?;
-    out.push(b'\t')?;
-    Ok(())
-}
-
 /// Appends the line of a request.
 ///
 /// # Errors
@@ -139,7 +127,10 @@ fn push_client(out: &mut Vec<u8>, request: &RequestLine<'_>) -> Result<(), Alloc
 pub fn push_request(out: &mut Vec<u8>, request: &RequestLine<'_>) -> Result<(), AllocError>
     ensures { OnOk result (out.new.items ≡ out.old.items ++ logged_bytes request.now) }
 {
-    push_client(out, request)?;
+    push_moment(out, request.ended)?;
+    out.push(b'\t')?;
+    push_escaped(out, request.peer)?;
+    out.push(b'\t')?;
     push_asked(out, request.asked)?;
     push_numbers(out, request.sent, request.micros)?;
     out.push(b'\n')?;

@@ -2,18 +2,17 @@
 
 ghost use Rattle.std.specs.Prelude.{◌≡◌, false, None, Some, IfSome, if◌then◌else◌};
 ghost use Rattle.gopher_server.specs.Batch.{AddsRequestTo, is_empty, is_full, no_lines};
-ghost use Rattle.gopher_server.specs.ThreadLog.{AddsLine, IsHandedOn, IsMomentAt, KeepsSince, is_due, poll_timeout, since_with};
+ghost use Rattle.gopher_server.specs.ThreadLog.{AddsLine, IsHandedOn, KeepsSince, is_due, poll_timeout, since_with};
 
 use crate::logging::batch::Batch;
 use crate::logging::queue::LogQueue;
 use crate::logging::request_line::RequestLine;
-use crate::thread_clock::micros_of;
-use jiff_core::civil::DateTime;
+use crate::thread_clock::{micros_of, moment_now};
 use std::alloc::Global;
 use std::net::IpAddr;
 use std::sync::{Arc, Wait};
 use std::thread;
-use std::time::{Clock, Duration, Instant, SystemTime, UNIX_EPOCH};
+use std::time::{Clock, Duration, Instant};
 
 // For how many milliseconds a server thread keeps a line to itself at most.
 const MAX_KEPT: u64 = 250;
@@ -29,21 +28,6 @@ const REST: u64 = 50;
 pub struct Accepted {
     peer: IpAddr,
     began: Instant,
-}
-
-// Returns the moment at a time after the beginning of 1970, or `None` after the year 9999.
-fn moment_at(since: Duration) -> Option<DateTime>
-    ensures { IsMomentAt since result }
-{
-    let nanos = i128::try_from(since.as_nanos()).ok()?;
-    DateTime::from_nanosecond(nanos).ok()
-}
-
-// Returns the present moment, or `None` if the clock can't be read, or is set before 1970 or after
-// 9999.
-fn moment_now(clock: &impl Clock) -> Option<DateTime> {
-    let now = SystemTime::now(clock).ok()?;
-    moment_at(now.duration_since(UNIX_EPOCH).ok()?)
 }
 
 // Whether lines that are kept since a time are handed on now.
