@@ -36,6 +36,7 @@ pub struct Catalogue {
     frontier: Frontier,
 }
 
+// Written out: a derived one, and that of each part, is proved again in every crate above.
 impl Drop for Catalogue {
     fn drop(self) {
         let Self {

@@ -14,6 +14,7 @@ pub struct Opening {
     tries: u32,
 }
 
+// Written out: a derived one, and that of each part, is proved again in every crate above.
 impl Drop for Opening {
     fn drop(self) {
         let _parts = self.into_parts();

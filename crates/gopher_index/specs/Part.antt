@@ -10,11 +10,7 @@ abbrev pub part_data : ℕ → Held → SegmentData
 part_data first (Page page) = record { first = first; pages = arc_value page ∷ [] }
 part_data first (Segment segment) = arc_value segment
 
--- a page that was found has a number below 65,536
-abbrev pub HasNumber : ℕ → Held → Type 0
-HasNumber first (Page page) = first < 65536
-HasNumber first (Segment segment) = Unit {0}
-
--- the first page of the part has this number
+-- the first page of the part has this number, which is below 65,536 if it is a page that was found
 abbrev pub IsPart : ℕ → Held → Type 0
-IsPart first held = ((part_data first held).first ≡ first) × HasNumber first held
+IsPart first (Page page) = first < 65536
+IsPart first (Segment segment) = (arc_value segment).first ≡ first

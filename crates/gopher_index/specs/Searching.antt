@@ -8,6 +8,7 @@ use Rattle.gopher_index.specs.Best.{answer_from, kept_hit}
 use Rattle.gopher_index.specs.Plan.{AreCells, IsPlan, is_match}
 use Rattle.gopher_index.specs.Joined.{AreBegun}
 use Rattle.gopher_index.specs.declared.best.Kept.{Kept}
+use Rattle.gopher_index.specs.declared.joined.Joined.{Joined}
 use Rattle.gopher_index.specs.declared.searching.Search.TheInside.{Inside}
 use Rattle.gopher_segment.specs.Segment.{SegmentData, pages_of}
 use Rattle.gopher_index.specs.declared.searching.Begun.{Begun}
@@ -49,12 +50,13 @@ AddsPages terms pages old new =
     (before : List PageData) → map kept_hit old ≡ answer_from 0 before terms
     → map kept_hit new ≡ answer_from 0 (before ++ pages) terms
 
--- if these are the cells of the pages for some terms, the pages are added to the best so far,
+-- if the cells are those of the pages for some terms, the pages are added to the best so far,
 -- unless it fails
-abbrev pub AddsCells : {E : Type 0} → List PageData → List ℕ → List ℕ → List Kept
-    → Result (Vec Kept) E → Type 0
-AddsCells pages verdicts scores old result =
-    (terms : List TermData) → AreCells terms pages (map is_match verdicts) scores
+abbrev pub AddsCells : {E : Type 0} → List PageData → Joined → List Kept → Result (Vec Kept) E
+    → Type 0
+AddsCells pages joined old result =
+    (terms : List TermData)
+    → AreCells terms pages (map is_match joined.verdicts.items) joined.scores.items
     → IfOk result (λ new. AddsPages terms pages old new.items)
 
 -- the hits of a short search, or those that a search in steps will find

@@ -80,6 +80,7 @@ pub struct Index {
     words: usize,
 }
 
+// Written out: a derived one, and that of each part, is proved again in every crate above.
 impl Drop for Index {
     fn drop(self) {
         let Self {

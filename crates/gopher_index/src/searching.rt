@@ -36,6 +36,7 @@ pub struct Search {
     done: usize,
 }
 
+// Written out: a derived one, and that of each part, is proved again in every crate above.
 impl Drop for Search {
     fn drop(self) {
         let Self {
@@ -71,8 +72,7 @@ fn kept_with_cells(
 ) -> Result<Vec<Kept>, NoMemory>
     requires verdicts { length joined.now.verdicts.items ≡ length part.now.pages }
     requires scores { length joined.now.scores.items ≡ length part.now.pages }
-    ensures { AddsCells part.now.pages joined.now.verdicts.items joined.now.scores.items
-        kept.now result }
+    ensures { AddsCells part.now.pages joined.now kept.now result }
 {
     let mut best = Best::of(alloc, kept)?;
     rank_cells(part, &joined.verdicts, &joined.scores, &mut best)?;

@@ -49,6 +49,7 @@ pub struct Page {
     parts: Arc<Parts>,
 }
 
+// Written out: a derived one, and that of each part, is proved again in every crate above.
 impl Drop for Page {
     fn drop(self) {
         let Self { parts: _parts } = self;

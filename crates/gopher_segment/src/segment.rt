@@ -38,6 +38,7 @@ pub struct Segment {
     table: Table,
 }
 
+// Written out: a derived one, and that of each part, is proved again in every crate above.
 impl Drop for Segment {
     fn drop(self) {
         let Self {
