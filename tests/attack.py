@@ -17,6 +17,7 @@ percentile. With --heavy there are 65,000 texts and a minute of searches, the bo
 """
 import contextlib
 import functools
+import itertools
 import multiprocessing
 import os
 import pathlib
@@ -40,10 +41,10 @@ MOST_MEMORY = 24_576  # KiB, of a server whose files have 9 MiB
 PLACES, EXCESS, MOST_ABOVE, ATTEMPTS = 100, 10, 20, 5
 MAX_HELD = 300_000_000
 LINGERS = 16  # seconds
-DEAF_TO_MENUS = 20
+DEAF_TO_LARGE = 20
 WAITING = 1_000
 MAX_FOR_WAITING = 8_192  # KiB, with what the search takes whose turn it is; begun searches of WAITING clients take 25,000
-MAX_FOR_MENUS = 16_384  # KiB, less than one copy of the menu
+MAX_FOR_LARGE = 8_192  # KiB, half a copy of a reply
 MIB = 1 << 20
 LARGE = bytes(range(256)) * 32_768
 MIDDLE = bytes(range(256)) * 256
@@ -421,21 +422,25 @@ def attack_by_deaf(attacked):
         print(f"attack: {held} bytes of the system for {SILENT} deaf clients; p99 {late:.3f} s", flush=True)
 
 
-def attack_by_large_menus(attacked):
-    """Many clients ask for a large menu and read nothing: the server holds no copy for each."""
-    lines, host = 70_000, "h" * 250
-    root = attacked.test.site({".menu": b"\n" * lines})
+def attack_by_large_replies(attacked):
+    """Many clients ask for a large menu or a large text and read nothing: the server holds no copy for each."""
+    lines, host = 65_000, "h" * 250
+    root = attacked.test.site({".menu": b"\n" * lines, "large.txt": (b"m" * 255 + b"\n") * lines})
     with contextlib.ExitStack() as ends:
         server = ends.enter_context(attacked.test.serving(root, "--listen", HOST, host=host))
-        wanted = b"i\t\t%s\t%d\r\n" % (host.encode(), server.port) * lines + b".\r\n"
-        attacked.expect("a large menu is sent whole", ask(server.port, b"\r\n") == wanted, True)
+        wanted = {
+            b"\r\n": b"i\t\t%s\t%d\r\n" % (host.encode(), server.port) * lines + b".\r\n",
+            b"/large.txt\r\n": (b"m" * 255 + b"\r\n") * lines + b".\r\n",
+        }
+        for line, reply in wanted.items():
+            attacked.expect(f"the large reply to {line} is sent whole", ask(server.port, line) == reply, True)
         before = server.memory("VmHWM")
-        for client in clients_of(ends, server, DEAF_TO_MENUS):
-            client.sendall(b"\r\n")
-            attacked.expect("a deaf client's menu begins", client.recv(1, socket.MSG_PEEK), b"i")
+        for client, (line, reply) in zip(clients_of(ends, server, DEAF_TO_LARGE), itertools.cycle(wanted.items())):
+            client.sendall(line)
+            attacked.expect(f"the reply to {line} begins for a deaf client", client.recv(1, socket.MSG_PEEK), reply[:1])
         held = server.memory("VmHWM") - before
-        what = f"{held} KiB for {DEAF_TO_MENUS} deaf clients of a menu of {len(wanted)} bytes"
-        attacked.expect(f"{what} are below {MAX_FOR_MENUS}", held < MAX_FOR_MENUS, True)
+        what = f"{held} KiB for {DEAF_TO_LARGE} deaf clients of large replies"
+        attacked.expect(f"{what} are below {MAX_FOR_LARGE}", held < MAX_FOR_LARGE, True)
         print(f"attack: {what}", flush=True)
 
 
@@ -484,7 +489,7 @@ def attack_by_searches(attacked):
 
 ATTACKS = (
     attack_by_crowd, attack_by_lines, attack_by_senders, attack_by_waiting, attack_by_excess, attack_by_use,
-    attack_by_refused_accepts, attack_by_deaf, attack_by_large_menus, attack_by_searches,
+    attack_by_refused_accepts, attack_by_deaf, attack_by_large_replies, attack_by_searches,
 )
 
 

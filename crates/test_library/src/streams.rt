@@ -58,6 +58,8 @@ fn a_conversation_ends_with_its_reply_or_says_why(rt: HostRuntime) {
         let (end, _calls, unsent) = conversed(rt.alloc(), LINE, room);
         assert!(rt; end == Progress::Failed(ServeFault::WriteFailed) && unsent == 10 - room);
     }
+    let (end, _calls, unsent) = conversed(rt.alloc(), &[b'a'; 1_026], 10);
+    assert!(rt; end == Progress::Failed(ServeFault::LineTooLong) && unsent == 10);
 }
 
 // How long the reply of a fetch of `/moon` is, or why there is none, and how much of the request is
