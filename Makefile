@@ -7,7 +7,8 @@ NEEDS_TOOLCHAIN = @python3 tools/unproved.py
 help:
 	@awk '/^# / { text = text "\n    " substr($$0, 3) } /^\.PHONY: / { print "make " $$2 text "\n" } !/^#/ { text = "" }' $(MAKEFILE_LIST)
 
-# Serves the example's site on localhost, built without its proofs, and prints how to ask it. Ctrl-C ends it.
+# Serves the example's site on localhost and prints how to ask it, by the program that `make build` left or by one without proofs.
+# Ctrl-C ends it.
 # make run SETTINGS=my.toml serves your own folder.
 .PHONY: run
 run:
@@ -25,13 +26,14 @@ build:
 	$(NEEDS_TOOLCHAIN)
 	cd crates/hole && rt run -- --version
 
-# Every proof and test from nothing, the wrong bodies, and the program as a user runs it; a table of all of it at the end.
+# Every proof and test, the wrong bodies, and the program as a user runs it; a table of all of it at the end. Proofs and refusals
+# that stand are kept.
 .PHONY: test
 test:
 	$(NEEDS_TOOLCHAIN)
 	tools/gate.py
 
-# What needs no proof, in minutes: scripts, links, and the tests of the program, built without its proofs if need be. Some tests
+# What needs no proof, in minutes: scripts, links, and most tests of the program, built without its proofs if need be. Some tests
 # measure times, and may fail on a busy machine.
 .PHONY: quick
 quick:

@@ -3,7 +3,7 @@
 
     tools/gate.py [--quick] [PART ..]
 
-Without --quick every part runs, as `make test` does. With --quick only the parts that need no proof run, as `make quick` does, on
+Without --quick every part runs, as `make test` does. With --quick only parts that need no proof run, as `make quick` does, on
 the program that `make build` left if no source is younger, and else on one that is built without its proofs. PART names single
 parts.
 
@@ -45,8 +45,8 @@ QUICK = {
     "program": (), "requests": (), "check": (), "replays": ("--scripts", "200", "--pages", "257"), "log": (),
     "attack": ("--memory", "100000"),
 }
-# tests that measure time or memory, or that wait for a second or two only: nothing else runs beside them, and each has so many
-# processors
+# tests that measure time or memory, or that wait for a second or two only: nothing runs beside them but one another, and each has
+# so many processors
 ALONE, PROCESSORS_ALONE = {"attack", "crawl_memory", "crawling", "log"}, 2
 # tests that want the built tests of a crate
 AFTER_CI = {"refusals"}
