@@ -6,6 +6,10 @@ HEAD = r"(?:pub(?:\(\w+\))? )?(?:const )?fn (?=\w)"
 # A method of a trait that has no body: no line of it ends in an opening brace, and the last ends in a semicolon.
 NO_BODY = r"(?:[^\n]*[^{\n]\n)*?[^\n]*;\n"
 FUNCTION = re.compile(rf"(?ms)^( *){HEAD}(?!{NO_BODY}).*?^\1\}}\n")
+# The head of an impl or a trait, which may take several lines, and its generics.
+IMPL = re.compile(r"(?m)^(?:impl|pub trait|trait)\b[^{}]*\{$")
+GENERICS = r"<(?:[^<>]|<[^<>]*>)*>"
+TYPE = re.compile(r"(?m)^(?:pub(?:\(\w+\))? )?(?:struct|enum) (\w+)")
 
 
 def pieces(text):
@@ -18,12 +22,27 @@ def names_in(piece):
     return re.findall(rf"(?m)^ *{HEAD}(\w+)", piece)
 
 
-def path_of(file, before, function):
-    """The path of a function below its crate, as a check prints it, from its source file and what stands there before it."""
-    path = [part for part in pathlib.PurePath(file).with_suffix("").parts[1:] if part not in ("lib", "main")]
+def module_of(file):
+    return [part for part in pathlib.PurePath(file).with_suffix("").parts[1:] if part not in ("lib", "main")]
+
+
+def modules_of_types(texts):
+    """The module of each type, from the texts of source files, without names that two modules have."""
+    modules = {}
+    for file, text in texts.items():
+        for name in TYPE.findall(text):
+            modules.setdefault(name, []).append(module_of(file))
+    return {name: found[0] for name, found in modules.items() if len(found) == 1}
+
+
+def path_of(file, before, function, modules={}):
+    """The path of a function below its crate, as a check prints it, from its source file and what stands there before it. That of
+    a method begins with the module of its type, if `modules` has it, and that of a trait's method with the module of the impl."""
+    path = module_of(file)
     if function.startswith(" "):
-        head = re.findall(r"(?m)^(?:impl|pub trait|trait)\b.*", before)[-1]
-        generics, of_trait, of_type = re.match(r"(?:impl(<.*?>)?|pub trait|trait) (?:(.*) for )?(\w+)", head).groups()
+        head = " ".join(IMPL.findall(before)[-1].split())
+        generics, of_trait, of_type = re.match(rf"(?:impl({GENERICS})?|pub trait|trait) (?:(.*) for )?(\w+)", head).groups()
+        path = path if of_trait else [*modules.get(of_type, path)]
         of_impl = re.findall(r"[<,] *(\w+)", generics or "")
         words = [word for word in re.findall(r"(?<![\w'])\w+(?!\w*::)", of_trait or "") if word not in of_impl]
         path.append(of_type + "".join(word[0].upper() + word[1:] for word in words))

@@ -109,7 +109,12 @@ PATHS = (
     ("src/menu.rt", "impl<S: Read> Read for Line<S> {\n", METHOD, "menu::LineRead::of"),
     ("src/menu.rt", "impl<T: Drop> From<Vec<u8>> for Line<T> {\n", METHOD, "menu::LineFromVecU8::of"),
     ("src/menu.rt", "impl<'a, T> From<Refused<'a, T>> for Line {\n", METHOD, "menu::LineFromRefused::of"),
+    ("src/menu.rt", "impl<R: Net<In = A> + Wait> Of<R>\n    for Line<'a> {\n", METHOD, "menu::LineOf::of"),
+    ("src/end.rt", "impl<'a> Line<'a> {\n", METHOD, "menu::line::Line::of"),
+    ("src/end.rt", "impl Of for Line {}\n\nimpl Of for Line {\n", METHOD, "end::LineOf::of"),
+    ("src/end.rt", "impl Twice {\n", METHOD, "end::Twice::of"),
 )
+TYPES = {"src/menu/line.rt": "pub struct Line<'a> {\n}\nenum Twice {\n", "src/other.rt": "pub(crate) struct Twice;\n"}
 TACTIC = "    #[tactic(auto, using(crate::proofs::Low::less))]\n"
 # what stands before a function, with and without the tactic that it asks for
 TACTICS = (
@@ -189,7 +194,8 @@ class Pieces(Case):
 
     def test_paths_of_functions_are_those_that_a_check_prints(self):
         for file, before, function, path in PATHS:
-            self.assertEqual(wrong_bodies.path_of(file, before, function), path)
+            modules = wrong_bodies.modules_of_types(TYPES) if file == "src/end.rt" else {}
+            self.assertEqual(wrong_bodies.path_of(file, before, function, modules), path)
 
     def test_methods_of_traits_and_functions_of_a_cycle_have_no_twin(self):
         for before, function, may in TWINS:

@@ -27,7 +27,8 @@ import threading
 from concurrent.futures import Future, ThreadPoolExecutor
 
 from answers import is_proved, lacking
-from functions import attributes_of, blank, is_blank, is_in_cycle, names_in, path_of, pieces, twin_of, without_tactic
+from functions import attributes_of, blank, is_blank, is_in_cycle, names_in, pieces, twin_of, without_tactic
+from functions import modules_of_types, path_of
 from kept import Refusals
 from lanes import Lanes
 
@@ -210,10 +211,11 @@ def write(edits, folder, is_alone):
 
 def blanks_of(folder):
     """The paths of a copy's blank functions."""
-    found = []
-    for path in (folder / "src").rglob("*.rt"):
-        parts, file = pieces(path.read_text()), path.relative_to(folder)
-        found += [path_of(file, "".join(parts[:at]), parts[at]) for at in range(1, len(parts), 2) if is_blank(parts[at])]
+    texts = {path.relative_to(folder): path.read_text() for path in (folder / "src").rglob("*.rt")}
+    found, modules = [], modules_of_types(texts)
+    for file, parts in ((file, pieces(text)) for file, text in texts.items()):
+        blank_at = [at for at in range(1, len(parts), 2) if is_blank(parts[at])]
+        found += [path_of(file, "".join(parts[:at]), parts[at], modules) for at in blank_at]
     return found
 
 
