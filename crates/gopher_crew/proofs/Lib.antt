@@ -7,6 +7,3 @@ pub mod Joining
 pub mod Versions
 pub mod Pairing
 pub mod PublicationLemmas
-mod Fetches
-mod Searches
-mod SiteLeads

@@ -8,5 +8,3 @@ pub mod Fault
 pub mod Kept
 pub mod Desk
 pub mod Work
-pub mod Answer
-pub mod Fetch

@@ -1,10 +1,8 @@
-//! A desk at which workers crawl one catalogue together, passes that search its snapshots, and the
-//! replies of a server to request lines, from a tree and a pass.
+//! A desk at which workers crawl one catalogue together, and passes that search its snapshots.
 //!
-//! The crates above rely on four contracts. Each call at a desk is a step of one sequential
+//! The crates above rely on three contracts. Each call at a desk is a step of one sequential
 //! catalogue. A search answers from one legal record that begins with everything the same pass saw
 //! before. The workers of a crawl keep the parts of their shares, so that the desk can be closed.
-//! `answer` and `answer_kept` return the reply that `specs/Answer.antt` defines (`site`).
 //!
 //! # Words
 //!
@@ -64,7 +62,6 @@
 //! | publishing | `publication`; in `publication/`: `update`, `version` |
 //! | history and tokens | in `publication/`: `history`, `entering`, `record_prefix`, `note` |
 //! | searching | `pass` |
-//! | replies to request lines, and fetches | `site`; in `site/`: `answering`, `fetching` |
 //! | names and faults | `crew`, `fault` |
 //!
 //! # Opening a desk
@@ -88,7 +85,6 @@ mod fault;
 pub mod laws;
 mod pass;
 mod publication;
-mod site;
 mod working;
 
 pub use crew::Crew;
@@ -99,7 +95,6 @@ pub use desk::share::Share;
 pub use fault::{DeskFault, SearchFault};
 pub use pass::{Answer, Pass};
 pub use publication::note::Note;
-pub use site::{Site, answer, answer_kept, fetch_over, serve_one};
 pub use working::crawling::{CrawlRefused, crawl};
 pub use working::fetch::{Calls, Fetch};
 pub use working::{Stop, WorkEnd, work};

@@ -1,2 +1,5 @@
 mod Ends
+mod Fetches
+mod Searches
+mod SiteLeads
 mod ThreadEnds

@@ -1,10 +1,14 @@
-//! Fetching over connections, and for a crawl whose failures are printed.
+//! Fetching over connections, and for a crawl whose failures are printed (in `fetching/`: what is
+//! sent and read).
 
 ghost use Rattle.std.specs.Prelude.{◌≡◌};
 
+mod exchange;
+
 use crate::failures::Failures;
+pub use exchange::fetch_over;
 use gopher_catalogue::Why;
-use gopher_crew::{Calls, Fetch, fetch_over};
+use gopher_crew::{Calls, Fetch};
 use gopher_item::Place;
 use gopher_text::Watched;
 use std::alloc::Global;

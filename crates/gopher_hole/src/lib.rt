@@ -6,8 +6,9 @@
 //! `TcpFetch` (fetching from other servers) and `replay` (replaying the script of a crawl). It
 //! hands on the types that these calls take and return, and those with which a pass is made.
 //!
-//! The contracts of this crate cover the program's status and what it writes. `gopher_crew` says
-//! what a client receives, and what a crawl leaves.
+//! `answer` and `answer_kept` return the reply that `specs/Answer.antt` defines. The other
+//! contracts of this crate cover the program's status and what it writes. `gopher_serve` says how
+//! much of a reply a client receives, and `gopher_crew` what a crawl leaves.
 //!
 //! Error 90 (`NoMemory`) means out of memory.
 #![tactic(auto)]
@@ -20,20 +21,19 @@ mod crewing;
 mod failures;
 mod fault;
 mod fetching;
+pub mod laws;
 mod listening;
 mod opening;
 mod program;
 mod progress;
+mod site;
 mod starting;
 
 pub use crewing::System;
 pub use fault::{Detail, ProgramFault};
-pub use fetching::TcpFetch;
+pub use fetching::{TcpFetch, fetch_over};
 pub use gopher_catalogue::{Catalogue, OpenFault, OpenRefused, Why};
-pub use gopher_crew::{
-    Blank, Calls, Crew, Desk, DeskFault, DeskRefused, Fetch, Pass, Share, answer, fetch_over,
-    serve_one,
-};
+pub use gopher_crew::{Blank, Calls, Crew, Desk, DeskFault, DeskRefused, Fetch, Pass, Share};
 pub use gopher_item::{Home, ItemFault, NoMemory, Place};
 pub use gopher_scope::{Key, Rule, Scope, SettingsFault};
 pub use gopher_script::{ReplayFault, replay};
@@ -42,3 +42,4 @@ pub use gopher_server::OpenLog;
 pub use gopher_text::{MAX_REPLY, Watched};
 pub use gopher_tree::{Trail, Tree, TreeFault};
 pub use program::run;
+pub use site::{Site, answer, answer_kept, serve_one};

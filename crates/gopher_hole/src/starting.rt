@@ -4,7 +4,8 @@ ghost use Rattle.std.specs.Prelude.{◌≡◌};
 ghost use Rattle.gopher_hole.specs.Ending.{EndAs, StartsAll, after_thread};
 
 use crate::crewing::System;
-use gopher_crew::{Crew, Pass, Site};
+use crate::site::Site;
+use gopher_crew::{Crew, Pass};
 use gopher_serve::Replies;
 use gopher_server::{ThreadEnd, ThreadSetup, serve};
 use std::alloc::Global;

@@ -1,7 +1,8 @@
 //! Requests over streams, of which one growth may be refused.
 
 use crate::stream::Stream;
-use gopher_crew::{Crew, Pass, serve_one};
+use gopher_crew::{Crew, Pass};
+use gopher_hole::serve_one;
 use gopher_item::{Home, NoMemory};
 use gopher_serve::{Replies, ServeFault};
 use gopher_text::Watched;

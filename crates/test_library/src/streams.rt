@@ -6,7 +6,7 @@ ghost use Rattle.std.specs.Prelude.{◌<◌, length};
 use crate::requests::HELLO;
 use crate::stream::Stream;
 use gopher_catalogue::Why;
-use gopher_crew::fetch_over;
+use gopher_hole::fetch_over;
 use gopher_item::{NoMemory, Place};
 use gopher_serve::{Answer, Answers, Conversation, Progress, ServeFault, converse};
 use gopher_text::Watched;

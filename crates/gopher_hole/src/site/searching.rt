@@ -3,11 +3,9 @@
 ghost use Rattle.std.specs.Prelude.{◌≡◌, ◌<◌, IfOk, OnErr, length};
 ghost use Rattle.gopher_serve.specs.Answer.{IfAnswered};
 ghost use Rattle.gopher_crew.specs.Crew.{SeesOn};
-ghost use Rattle.gopher_crew.specs.Answer.{AnswersTerms, IsQueryFor, asked};
+ghost use Rattle.gopher_hole.specs.Answer.{AnswersTerms, IsQueryFor, asked};
 
-use crate::crew::Crew;
-use crate::fault::SearchFault;
-use crate::pass::Pass;
+use gopher_crew::{Crew, Pass, SearchFault};
 use gopher_index::Begun;
 use gopher_item::{ByteString, Home, MAX_LINE, NoMemory};
 use gopher_page::{Query, QueryFault};

@@ -7,14 +7,11 @@
 ghost use Rattle.std.specs.Prelude.{◌≡◌};
 
 mod answering;
-mod fetching;
 mod searching;
 mod serving;
 
-use crate::crew::Crew;
-use crate::pass::Pass;
 pub use answering::{answer, answer_kept};
-pub use fetching::fetch_over;
+use gopher_crew::{Crew, Pass};
 use gopher_item::NoMemory;
 use gopher_serve::{Answer, Answers, Replies};
 pub use serving::serve_one;
@@ -29,7 +26,7 @@ pub struct Site<'a, C: Crew> {
 }
 
 impl<'a, C: Crew> Model for Site<'a, C> {
-    ghost use Rattle.gopher_crew.specs.Answer.{SiteData};
+    ghost use Rattle.gopher_hole.specs.Answer.{SiteData};
 
     ghost Value = { SiteData };
 
@@ -53,7 +50,7 @@ impl<'a, C: Crew> Site<'a, C> {
 }
 
 impl<'a, C: Crew> Answers<'a> for Site<'a, C> {
-    ghost use Rattle.gopher_crew.specs.Answer.{GivesReply, LeadsOn};
+    ghost use Rattle.gopher_hole.specs.Answer.{GivesReply, LeadsOn};
 
     ghost gives = { GivesReply };
 

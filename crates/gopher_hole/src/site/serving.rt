@@ -3,11 +3,10 @@
 ghost use Rattle.std.specs.Prelude.{◌≡◌, IfErr};
 ghost use Rattle.gopher_text.specs.Line.{IsNextLine};
 ghost use Rattle.gopher_serve.specs.Serve.{IsUnheard, HearsRequest, SendsReply};
-ghost use Rattle.gopher_crew.specs.Answer.{AnswersLine};
+ghost use Rattle.gopher_hole.specs.Answer.{AnswersLine};
 
-use crate::crew::Crew;
-use crate::pass::Pass;
 use crate::site::answering::answer;
+use gopher_crew::{Crew, Pass};
 use gopher_item::Home;
 use gopher_serve::ServeFault;
 use gopher_text::{Watched, read_line_from, send};

@@ -4,11 +4,10 @@ ghost use Rattle.std.specs.Prelude.{◌≡◌, codes, IfOk, OnErr};
 ghost use Rattle.gopher_tree.specs.Reply.{error_bytes};
 ghost use Rattle.gopher_serve.specs.Answer.{IfAnswered};
 ghost use Rattle.gopher_crew.specs.Crew.{SeesOn};
-ghost use Rattle.gopher_crew.specs.Answer.{AnswersFrom, AnswersLine, IfBytes, is_search};
+ghost use Rattle.gopher_hole.specs.Answer.{AnswersFrom, AnswersLine, IfBytes, is_search};
 
-use crate::crew::Crew;
-use crate::pass::Pass;
 use crate::site::searching::begin_search;
+use gopher_crew::{Crew, Pass};
 use gopher_item::{Home, NoMemory, RequestFault, read_request};
 use gopher_serve::{Answer, Replies};
 use gopher_tree::{Tree, error_reply};

@@ -1,7 +1,7 @@
 //! Fetching the reply of a place over a stream (`fetch_over`).
 
 ghost use Rattle.std.specs.Prelude.{◌≡◌, ◌≤◌, ◌++◌, ◌∷◌, [], IfOk};
-ghost use Rattle.gopher_crew.specs.Fetch.{Fetches, request_bytes, why_of};
+ghost use Rattle.gopher_hole.specs.Fetch.{Fetches, request_bytes, why_of};
 
 use gopher_catalogue::Why;
 use gopher_item::{NoMemory, Place};

@@ -1,8 +1,8 @@
 use Rattle.std.proofs.Common.{rules, subst, ◌∙◌}
 use Rattle.std.specs.Io.KnownBytes.{Appends}
-use Rattle.gopher_crew.specs.Fetch.{request_bytes}
-use Rattle.gopher_crew.proofs.Fetches.{fetch_unread}
-use Rattle.gopher_crew.proofs.site.fetching.fetch_over.Goals as goal
+use Rattle.gopher_hole.specs.Fetch.{request_bytes}
+use Rattle.gopher_hole.proofs.Fetches.{fetch_unread}
+use Rattle.gopher_hole.proofs.fetching.exchange.fetch_over.Goals as goal
 
 pub returns-in-Ok-read_reply : goal.returns-in-Ok-read_reply
 returns-in-Ok-read_reply g c =

@@ -6,7 +6,7 @@ use Rattle.gopher_text.specs.Watched.{WatchedData}
 use Rattle.gopher_text.specs.declared.fault.ReplyFault.{ReplyFault}
 use Rattle.gopher_text.specs.declared.fault.ReplyFault.TheVariants as reply_fault
 use Rattle.gopher_catalogue.specs.declared.event.Why.{Why}
-use Rattle.gopher_crew.specs.Fetch.{FailsToFetch, SendsThenReads, why_of}
+use Rattle.gopher_hole.specs.Fetch.{FailsToFetch, SendsThenReads, why_of}
 
 -- the request was sent, and the reply wasn't read to its end
 pub fetch_unread : {S : Type 0} (contents remaining : S → Option (List ℕ)) (limit : ℕ) (request : List ℕ) (old middle new : WatchedData S) (fault : ReplyFault) (why : Why)

@@ -8,7 +8,7 @@ use Rattle.gopher_index.specs.declared.hit.Hit.{Hit}
 use Rattle.gopher_crew.specs.Crew.{PassData, SeesOn}
 use Rattle.gopher_tree.specs.Reply.{error_bytes}
 use Rattle.gopher_serve.specs.Answer.{hits_bytes}
-use Rattle.gopher_crew.specs.Answer.{AnswersTerms, FindsHits}
+use Rattle.gopher_hole.specs.Answer.{AnswersTerms, FindsHits}
 
 -- a search that ended
 pub answers_hits : (home : HomeData) (old new : PassData) (terms : List TermData) (hits : List Hit) (reply : List ℕ)
