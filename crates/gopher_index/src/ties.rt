@@ -89,11 +89,10 @@ impl<'a> Ties<'a> {
             return Ok(());
         }
         let page = &self.pages[index];
+        best.insert(score, page)?;
         if best.rejects(score, page) {
             self.tied = index;
             self.score = score;
-        } else {
-            best.insert(score, page)?;
         }
         self.renew(best);
         Ok(())
