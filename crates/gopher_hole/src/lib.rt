@@ -6,9 +6,10 @@
 //! `TcpFetch` (fetching from other servers) and `replay` (replaying the script of a crawl). It
 //! hands on the types that these calls take and return, and those with which a pass is made.
 //!
-//! `answer` and `answer_kept` return the reply that `specs/Answer.antt` defines. The other
-//! contracts of this crate cover the program's status and what it writes. `gopher_serve` says how
-//! much of a reply a client receives, and `gopher_crew` what a crawl leaves.
+//! `answer` and `answer_kept` return the reply that `specs/Answer.antt` defines, and `fetch_over`
+//! fetches as `specs/Fetch.antt` says. The other contracts of this crate cover the program's status
+//! and what it writes. `gopher_serve` says how much of a reply a client receives, and `gopher_crew`
+//! what a crawl leaves.
 //!
 //! Error 90 (`NoMemory`) means out of memory.
 #![tactic(auto)]

@@ -1,7 +1,7 @@
-//! Tests of the crates up to gopher_crew, of what no script and no request can show: streams that
-//! fail, which runs of pages are merged, searches in steps, workers that wait for each other, and
-//! calls of the library that the program doesn't make. Calls that change or consume what they are
-//! given are made again after a refused allocation (`desks`), for `tests/refusals.py`. The rows of
+//! Tests of the libraries, of what no script and no request can show: streams that fail, which runs
+//! of pages are merged, searches in steps, workers that wait for each other, and calls of the
+//! library that the program doesn't make. Calls that change or consume what they are given are made
+//! again after a refused allocation (`desks`), for `tests/refusals.py`. The rows of
 //! `proofs/WorkedRows.antt` show definitions.
 #![tactic(auto)]
 
