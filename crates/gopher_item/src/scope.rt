@@ -38,6 +38,14 @@ impl Scope {
         Scope { allow, deny }
     }
 
+    /// Lends the allow rules and the deny rules, in their order.
+    pub fn rules(&self) -> (&[Rule], &[Rule])
+        ensures allowing { result.0.now ≡ self.now.allow }
+        ensures denying { result.1.now ≡ self.now.deny }
+    {
+        (&self.allow, &self.deny)
+    }
+
     /// Returns the allow rules and the deny rules, in their order.
     pub fn into_rules(self) -> (Vec<Rule>, Vec<Rule>)
         ensures allowing { result.0.items ≡ self.allow }

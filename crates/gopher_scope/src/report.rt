@@ -92,8 +92,8 @@ fn folder_report<R: Files>(
 }
 
 // The report on settings and their folder.
-fn settings_report<R: Files>(rt: &R, alloc: Global, path: &[u8], settings: Settings) -> Reported
-    ensures { IfOk result (IsReportOnSite path.now (settings_data settings)) }
+fn settings_report<R: Files>(rt: &R, alloc: Global, path: &[u8], settings: &Settings) -> Reported
+    ensures { IfOk result (IsReportOnSite path.now (settings_data settings.now)) }
 {
     let mut trail = Trail::new(alloc);
     let tree = match Tree::load_along(rt, alloc, settings.root.as_str(), &mut trail) {
@@ -170,7 +170,7 @@ fn checked_table<R: Files>(rt: &R, alloc: Global, path: &[u8], table: &Table) ->
     ensures { IfOk result (IsReportOnTable path.now (table_view table.now)) }
 {
     match Settings::of_table(alloc, table) {
-        Ok(settings) => settings_report(rt, alloc, path, settings),
+        Ok(settings) => settings_report(rt, alloc, path, &settings),
         Err(SettingsFault::NoMemory) => memory_report(alloc, path),
         Err(refused) => Ok(Report {
             words: table_report(alloc, path, table)?,

@@ -114,21 +114,21 @@ fn push_warnings(
 pub fn site_report(
     alloc: Global,
     path: &[u8],
-    settings: Settings,
+    settings: &Settings,
     tree: &Tree,
     trail: &Trail,
 ) -> Reported
-    ensures { IfOk result (IsSoundReport path.now (settings_data settings) tree.now trail.now) }
+    ensures { IfOk result (IsSoundReport path.now (settings_data settings.now) tree.now trail.now) }
 {
-    let (allow, deny) = settings.scope.into_rules();
+    let (allow, deny) = settings.scope.rules();
     let (home, root) = (&settings.home, settings.root.as_str());
     let mut words = Vec::new(alloc);
     push_words(b"settings: ", path, &mut words)?;
     push_home(home, root, &mut words)?;
     push_sizes(tree, &mut words)?;
     push_seeds(&settings.seeds, &mut words)?;
-    push_rules(b"may visit: ", &allow, &mut words)?;
-    push_rules(b"may not visit: ", &deny, &mut words)?;
+    push_rules(b"may visit: ", allow, &mut words)?;
+    push_rules(b"may not visit: ", deny, &mut words)?;
     let site = Site { home, root, tree };
     push_warnings(alloc, &site, &settings.seeds, trail, &mut words)?;
     words.extend_from_slice(b"sound\n")?;
