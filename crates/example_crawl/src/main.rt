@@ -112,33 +112,40 @@ fn search_and_close<C: Crew, R: Wait + Drop>(
     })
 }
 
-// Crawls, searches and closes the desk. Gives the catalogue with its whole record.
-fn closed<C: Crew + Send + Sync, R: Print + AllocGlobal + Threads + Wait + Sync>(
+// The first two passes.
+fn two_of<C: Crew>(passes: &mut [Pass<C>]) -> Option<(&mut Pass<C>, &mut Pass<C>)> {
+    let (first, others) = passes.split_first_mut()?;
+    Some((first, others.first_mut()?))
+}
+
+// Crawls, searches, and closes the desk.
+fn closed<C: Crew + Send + Sync, R: AllocGlobal + Threads + Wait + Sync>(
     rt: &R,
     desk: Desk<C, &R>,
     passes: &mut [Pass<C>],
     shares: Vec<Share<C>>,
     query: &Query,
-) -> Result<Catalogue, Failed> {
-    let Some((first, others)) = passes.split_first_mut() else {
-        return Err(Failed::Refused);
-    };
-    let Some(second) = others.first_mut() else {
+) -> Result<Ending, Failed> {
+    let Some((first, second)) = two_of(passes) else {
         return Err(Failed::Refused);
     };
     let shares = crawled(rt, &desk, shares)?;
-    let end = search_and_close(desk, shares, first, second, query)?;
+    search_and_close(desk, shares, first, second, query)
+}
+
+// Prints what was found.
+fn print_answers<R: Print>(rt: &R, end: &Ending) -> Result<(), Failed> {
     print_hits(rt, &end.first.hits)?;
     println!(rt; "{} in both answers", end.second.hits.len())?;
-    Ok(end.catalogue)
+    Ok(())
 }
 
 // Opens a desk, and works at it.
-fn opened<C: Crew + Send + Sync, R: Print + AllocGlobal + Threads + Wait + Sync>(
+fn opened<C: Crew + Send + Sync, R: AllocGlobal + Threads + Wait + Sync>(
     rt: &R,
     blank: Blank,
     query: &Query,
-) -> Result<Catalogue, Failed>
+) -> Result<Ending, Failed>
     requires blank { IsBlankOf C.name C.parts C.history blank }
     requires begun { blank.begun ≡ [] }
 {
@@ -156,6 +163,7 @@ fn main(rt: HostRuntime) -> Result<(), Failed> {
     let Some(()) = searched(&rt, &query) else {
         return Err(Failed::Refused);
     };
-    let catalogue = opened::<Brand, _>(&rt, Blank::new(), &query)?;
-    print_status(&rt, &catalogue)
+    let end = opened::<Brand, _>(&rt, Blank::new(), &query)?;
+    print_answers(&rt, &end)?;
+    print_status(&rt, &end.catalogue)
 }

@@ -201,6 +201,9 @@ fn listen_and_serve<
 ) -> Result<Vec<WorkEnd<CrawlFetch<'a>, C>>, ProgramFault>
     ensures { OnOk result (HasSent W.contents output.old output.new (listening_line replies.home)) }
 {
+    if let Some(bytes) = serving.crawl_memory {
+        desk.limit_memory(bytes);
+    }
     let alloc = rt.alloc();
     let workers = if desk.status(rt).waiting > 0 {
         pairs.len()
@@ -222,6 +225,31 @@ fn listen_and_serve<
     let ended = crawl_to_end(rt, alloc, started, desk, pairs, failures);
     end_log(rt, alloc, log);
     ended
+}
+
+// Serves and crawls at the desk until all have ended, and closes it. Returns the number of places
+// in each state.
+fn serve_and_close<
+    C: Crew + Send + Sync + 'static,
+    R: System + Net<Listener = NetListener, Stream = TcpStream>,
+    W: Write,
+>(
+    rt: &R,
+    serving: &Serving<'_>,
+    replies: Replies,
+    desk: Desk<C, &R>,
+    passes: Vec<Pass<C>>,
+    shares: Vec<Share<C>>,
+    failures: &Failures,
+    out: &mut Watched<W>,
+) -> Result<Status, ProgramFault>
+    ensures line { OnOk result (HasSent W.contents out.old out.new (listening_line replies.home)) }
+    ensures status { IfOk result (IsStatusAfter desk.entry) }
+{
+    let alloc = rt.alloc();
+    let pairs = pairs_of(alloc, shares, failures)?;
+    let ends = listen_and_serve(rt, serving, &desk, replies, passes, pairs, failures, out)?;
+    close(alloc, desk, ends)
 }
 
 /// Serves and crawls as the settings say. Writes the line `listening HOST PORT` once it listens,
@@ -257,13 +285,8 @@ pub fn serve<
         passes,
         shares,
     } = opened;
-    if let Some(bytes) = serving.crawl_memory {
-        desk.limit_memory(bytes);
-    }
-    let pairs = pairs_of(alloc, shares, &failures)?;
-    let ends = listen_and_serve(
-        rt, serving, &desk, replies, passes, pairs, &failures, output,
+    let status = serve_and_close(
+        rt, serving, replies, desk, passes, shares, &failures, output,
     )?;
-    let status = close(alloc, desk, ends)?;
     tell_status(alloc, status, output)
 }

@@ -1,6 +1,7 @@
 //! Opening a server: its settings, its folder and its desk.
 
 ghost use Rattle.std.specs.Prelude.{◌≡◌, [], IfOk};
+ghost use mathlib.Core.List.{IsPrefix};
 ghost use Rattle.gopher_catalogue.specs.Step.{opened_record};
 ghost use Rattle.gopher_crew.specs.Desk.{IsBlankOf, AllHaveSeen, shares_at};
 ghost use Rattle.gopher_hole.specs.Ending.{AreSettings, opening_record};
@@ -75,12 +76,12 @@ pub fn read_settings<R: Files>(rt: &R, alloc: Global, path: &str) -> Result<Sett
 fn open_replies<R: Files>(
     rt: &R,
     alloc: Global,
-    root: &str,
+    root: String,
     home: Home,
 ) -> Result<Replies, ProgramFault>
     ensures { IfOk result (λ replies. replies.home ≡ home) }
 {
-    let tree = match Tree::load(rt, alloc, root) {
+    let tree = match Tree::load(rt, alloc, root.as_str()) {
         Ok(tree) => tree,
         Err(fault) => return Err(ProgramFault::Site(SiteFault::Tree(fault, Obstacle::Other))),
     };
@@ -103,6 +104,27 @@ fn open_catalogue(
     match Catalogue::open(alloc, scope, seeds, places, tries) {
         Ok(catalogue) => Ok(catalogue),
         Err(refused) => Err(ProgramFault::Open(refused.fault)),
+    }
+}
+
+// Opens the desk of a crawl, which is at its opening.
+fn open_desk<'r, C: Crew, R: Wait>(
+    rt: &'r R,
+    alloc: Global,
+    catalogue: Catalogue,
+    threads: u32,
+    workers: u32,
+    blank: Blank,
+) -> Result<(Desk<C, &'r R>, Vec<Pass<C>>, Vec<Share<C>>), ProgramFault>
+    requires blank { IsBlankOf C.name C.parts C.history blank }
+    requires begun { IsPrefix blank.begun catalogue }
+    ensures desk { IfOk result (λ opened. opened.0 ≡ catalogue) }
+    ensures passes { IfOk result (λ opened. AllHaveSeen opened.0 threads opened.1.items) }
+    ensures shares { IfOk result (λ opened. opened.2.items ≡ shares_at opened.0 workers) }
+{
+    match Desk::<C, &'r R>::open(rt, alloc, catalogue, threads, workers, blank) {
+        Ok(opened) => Ok(opened),
+        Err(refused) => Err(ProgramFault::Desk(refused.fault)),
     }
 }
 
@@ -131,17 +153,23 @@ pub fn open<'r, C: Crew, R: Files + Wait>(
     ensures passes { IfOk result (λ o. AllHaveSeen o.desk settings.threads o.passes.items) }
     ensures shares { IfOk result (λ o. o.shares.items ≡ shares_at o.desk settings.workers) }
 {
-    let (home, threads, workers) = (settings.home, settings.threads, settings.workers);
-    let (places, tries) = (settings.places, settings.tries);
-    let replies = open_replies(rt, alloc, settings.root.as_str(), home)?;
-    let catalogue = open_catalogue(alloc, settings.scope, settings.seeds, places, tries)?;
-    match Desk::<C, &'r R>::open(rt, alloc, catalogue, threads, workers, blank) {
-        Ok((desk, passes, shares)) => Ok(Opened {
-            replies,
-            desk,
-            passes,
-            shares,
-        }),
-        Err(refused) => Err(ProgramFault::Desk(refused.fault)),
-    }
+    let Settings {
+        home,
+        root,
+        seeds,
+        scope,
+        places,
+        workers,
+        threads,
+        tries,
+    } = settings;
+    let replies = open_replies(rt, alloc, root, home)?;
+    let catalogue = open_catalogue(alloc, scope, seeds, places, tries)?;
+    let (desk, passes, shares) = open_desk(rt, alloc, catalogue, threads, workers, blank)?;
+    Ok(Opened {
+        replies,
+        desk,
+        passes,
+        shares,
+    })
 }
