@@ -23,6 +23,7 @@ def names_in(piece):
 
 
 def module_of(file):
+    """The module of a source file, as a list of names; empty for the root of its crate."""
     return [part for part in pathlib.PurePath(file).with_suffix("").parts[1:] if part not in ("lib", "main")]
 
 
@@ -35,7 +36,7 @@ def modules_of_types(texts):
     return {name: found[0] for name, found in modules.items() if len(found) == 1}
 
 
-def path_of(file, before, function, modules={}):
+def path_of(file, before, function, modules):
     """The path of a function below its crate, as a check prints it, from its source file and what stands there before it. That of
     a method begins with the module of its type, if `modules` has it, and that of a trait's method with the module of the impl."""
     path = module_of(file)

@@ -3,11 +3,11 @@ import contextlib
 import os
 import pathlib
 import re
+import select
 import signal
 import subprocess
 import tempfile
 import threading
-import time
 
 MEMORY_OF_A_CHECK = 3 << 30
 # What stays free beside `rt ci` when a check begins: its own proofs take up to 5 GB each, and have still to grow.
@@ -59,12 +59,14 @@ class Lanes:
         if beside:
             with contextlib.suppress(OSError):
                 pathlib.Path(f"/proc/{process.pid}/oom_score_adj").write_text("1000")
-        while not (ended := os.wait4(process.pid, os.WNOHANG))[0]:
+        ends = os.pidfd_open(process.pid)
+        while not select.select([ends], [], [], 1.0)[0]:
             if not self.is_quiet.is_set() and available() < LEAST:
                 os.kill(process.pid, signal.SIGKILL)
-            time.sleep(0.2)
-        process.returncode = os.waitstatus_to_exitcode(ended[1])
-        return ended[2].ru_utime + ended[2].ru_stime
+        os.close(ends)
+        _, status, used = os.wait4(process.pid, 0)
+        process.returncode = os.waitstatus_to_exitcode(status)
+        return used.ru_utime + used.ru_stime
 
     def run(self, words, folder, weight):
         """What a check says, and its seconds. One that is killed beside `rt ci` is run again once that has ended."""

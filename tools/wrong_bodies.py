@@ -27,8 +27,7 @@ import threading
 from concurrent.futures import Future, ThreadPoolExecutor
 
 from answers import is_proved, lacking
-from functions import attributes_of, blank, is_blank, is_in_cycle, names_in, pieces, twin_of, without_tactic
-from functions import modules_of_types, path_of
+from functions import attributes_of, blank, is_blank, is_in_cycle, modules_of_types, names_in, path_of, pieces, twin_of, without_tactic
 from kept import Refusals
 from lanes import Lanes
 
