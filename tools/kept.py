@@ -56,10 +56,12 @@ class Refusals:
 
     def keep(self, edits):
         """Keeps what the functions of a crate's refused edits lack, unless a source has changed since."""
+        crates = {}
         for edit, why in edits.items():
             with contextlib.suppress(*BROKEN):
                 new = place() / edit.crate / f".{edit.name}.{os.getpid()}"
-                if self.sums[edit] == sum_of(self.crate(edit.crate), edit.name, edit.text):
+                crate = crates.get(edit.crate) or crates.setdefault(edit.crate, self.crate(edit.crate))
+                if self.sums[edit] == sum_of(crate, edit.name, edit.text):
                     new.parent.mkdir(parents=True, exist_ok=True)
                     new.write_text(f"{self.sums[edit]}\n{why}\n")
                     new.replace(new.with_name(edit.name))
