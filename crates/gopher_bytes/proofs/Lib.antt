@@ -2,3 +2,4 @@ pub mod Splits
 pub mod PartLemmas
 pub mod Zips
 pub mod Trims
+pub mod TrimSearches
