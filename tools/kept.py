@@ -1,18 +1,21 @@
-"""Refusals that stand, kept on this machine: what tools/wrong_bodies.py need not try a second time.
+"""What was judged and stands, kept on this machine: what tools/wrong_bodies.py need not judge again.
 
-They lie in the folder that HOLE_GATE_CACHE names, or else in hole-gate among the user's caches. Each edit has a file with a sum
-of all that its check reads, and with what its function lacks. A file that can't be read or has another sum counts as none.
+It lies in the folder that HOLE_GATE_CACHE names, or else in hole-gate among the user's caches: a file for each crate, with a sum of
+all that its check and its program read, and its verdicts. A file that can't be read or has another sum counts as none.
 """
 import contextlib
 import hashlib
+import json
 import os
 import pathlib
 import re
+import subprocess
 
 TOOLS = pathlib.Path(__file__).resolve().parent
-TOOL = [(TOOLS / name).read_bytes() for name in ("wrong_bodies.py", "functions.py", "answers.py", "lanes.py", "kept.py")]
 # a store that can't be used, or no home for it
-BROKEN = (OSError, ValueError, RuntimeError)
+BROKEN = (OSError, ValueError, RuntimeError, KeyError)
+# the parts of the toolchain that a check or a program is made of
+PARTS_OF_KIT = ("bin", "toolchain", "logic_built", "c", "rlibs", "rattle/core", "rattle/logic", "rattle/antt")
 
 
 def place():
@@ -25,43 +28,46 @@ def sum_of(*parts):
     return hashlib.sha256(repr(parts).encode()).hexdigest()
 
 
-class Refusals:
-    """The refusals of a repository's edits, by the kit that checks them and the crates below each crate."""
+def sum_of_kit():
+    """A sum of the toolchain: its identity, and the size and time of each file that a check or a program reads."""
+    kit = pathlib.Path(subprocess.run(("rt", "doc"), stdout=subprocess.PIPE, text=True).stdout.strip()).parent
+    files = [(kit / part, at, name) for part in PARTS_OF_KIT for at, _, names in os.walk(kit / part) for name in names]
+    seen = [(at, name, os.lstat(f"{at}/{name}").st_size, os.lstat(f"{at}/{name}").st_mtime_ns) for _, at, name in sorted(files)]
+    return sum_of((kit / "KIT-ID").read_text(), seen)
 
-    def __init__(self, root, below, kit, is_read=True):
-        self.root, self.below, self.kit, self.is_read = root, below, kit, is_read
-        self.sums = {}  # of each edit, as it was before its check
 
-    def crate(self, name):
-        """The sum of what each check of a crate reads: the kit, the tool, the crate and those below it, with their lines of
-        crates.txt."""
-        crates, files = [*self.below[name], name], [self.root / "HANDLES"]
-        for crate in crates:
+class Kept:
+    """The verdicts of a repository's crates, with the crates below each."""
+
+    def __init__(self, root, below, is_read=True):
+        self.root, self.below, self.is_read, self.kit = root, below, is_read, sum_of_kit()
+
+    def sum(self, crate):
+        """The sum of all that the verdicts of a crate rest on."""
+        crates, files = [*self.below[crate], crate], [self.root / "HANDLES", *sorted(TOOLS.glob("*.py"))]
+        for name in crates:
             for part in ("src", "specs", "proofs"):
-                files += sorted((self.root / "crates" / crate / part).rglob("*"))
-        read = [(str(file.relative_to(self.root)), sum_of(file.read_bytes())) for file in files if file.is_file()]
+                files += sorted((self.root / "crates" / name / part).rglob("*"))
+        for part in ("wrong-bodies", "right-bodies", "must-fail"):
+            files += sorted((self.root / "crates" / crate / part).rglob("*"))
+        read = [(str(file), sum_of(file.read_bytes())) for file in files if file.is_file()]
+        read = [(file.removeprefix(str(self.root)), it) for file, it in read]
         lines = [line for line in (self.root / "crates.txt").read_text().splitlines() if re.match(r"\w*", line)[0] in crates]
-        return sum_of(self.kit, TOOL, name, lines, read)
+        return sum_of(self.kit, crate, lines, read)
 
-    def known(self, edits):
-        """What the functions of those of a crate's edits lack whose refusal is kept."""
-        crate, found = self.crate(edits[0].crate), {}
-        for edit in edits:
-            self.sums[edit] = sum_of(crate, edit.name, edit.text)
-            with contextlib.suppress(*BROKEN):
-                kept, _, why = (place() / edit.crate / edit.name).read_text().partition("\n")
-                if kept == self.sums[edit] and why.endswith("\n") and self.is_read:
-                    found[edit] = why.strip()
-        return found
-
-    def keep(self, edits):
-        """Keeps what the functions of a crate's refused edits lack, unless a source has changed since."""
-        crates = {}
-        for edit, why in edits.items():
-            with contextlib.suppress(*BROKEN):
-                new = place() / edit.crate / f".{edit.name}.{os.getpid()}"
-                crate = crates.get(edit.crate) or crates.setdefault(edit.crate, self.crate(edit.crate))
-                if self.sums[edit] == sum_of(crate, edit.name, edit.text):
-                    new.parent.mkdir(parents=True, exist_ok=True)
-                    new.write_text(f"{self.sums[edit]}\n{why}\n")
-                    new.replace(new.with_name(edit.name))
+    def or_made(self, crate, those, make):
+        """The verdicts on a crate's edits that are kept, or else those that are made, which are kept if all passed."""
+        known, before = {str(it): it for part in those for it in part}, self.sum(crate)
+        names = sum_of(sorted(known))
+        with contextlib.suppress(*BROKEN):
+            kept = json.loads((place() / crate).read_text()) if self.is_read else {}
+            if kept.get("sum") == before and kept.get("names") == names:
+                return {known[name]: (True, why) for name, why in kept["verdicts"].items()}
+        verdicts = make(*those)
+        with contextlib.suppress(*BROKEN):
+            if all(is_passed for is_passed, _ in verdicts.values()) and self.sum(crate) == before:
+                place().mkdir(parents=True, exist_ok=True)
+                new = place() / f".{crate}.{os.getpid()}"
+                new.write_text(json.dumps({"sum": before, "names": names, "verdicts": {str(it): why for it, (_, why) in verdicts.items()}}))
+                new.replace(place() / crate)
+        return verdicts

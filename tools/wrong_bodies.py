@@ -1,19 +1,23 @@
 #!/usr/bin/env python3
-"""Tries the wrong bodies: edits that turn the meaning of a function, each of which the prover has to refuse.
+"""Judges the wrong bodies: edits that turn the meaning of a function, each of which its contract has to exclude.
 
-    tools/wrong_bodies.py [--reasons] [--from-nothing] [--beside FOLDER] [CRATE|CRATE/NAME ..]
+    tools/wrong_bodies.py [--reasons] [--from-nothing] [CRATE|CRATE/NAME ..]
 
-tries those of these crates, or these, or all; CONTRIBUTING.md has their form. With --reasons it prints for each what its function
-lacks. A refusal that stands is kept (tools/kept.py); --from-nothing tries it all the same. With --beside, for work beside `rt ci`,
-FOLDER/NAME holds the library of the crate NAME once the standard input has a line NAME, and until that input ends, checks leave
-processors and memory to `rt ci` (tools/lanes.py): those of a crate run beside its own proof, and count once it has one. Without,
-libraries are built.
+judges those of these crates, or these, or all. tools/edits.py has their form. A wrong body has a line `holds: EXPR`, and counts as
+excluded if both of these say so:
 
-All edits of a crate are tried in one check of a copy of the crate, since the prover goes on after a refusal. A second edit of a
-function changes a twin of it. All other functions are blank, with a body whose proof fails at once. An edit counts as refused
-only if its own function lacks the proof of a goal. What isn't refused in company, or has no twin, is tried alone, with no blank
-body: 'NOT REFUSED' is then said of a function that is proved, and 'NOT PROVED, BY NAMES ALONE' of one whose proof file no
-longer fits, which shows nothing either way. The last line is 'N passed, M failed'.
+- The proof: `fn witness(alloc: Global) { let holds = EXPR; prove!(holds); }` is proved from the contracts of what it calls, and from
+  nothing else. So every body that meets its contract makes EXPR true.
+- The run: EXPR is true of the function as it is, and false of the wrong body, or the wrong body stops at a fault there.
+
+So the wrong body doesn't meet the contract, whatever the proof of the function looks like. The prover doesn't see wrong bodies: a
+proof that fails could be a proof that no longer fits. Each crate takes one check, of a copy with all witnesses, and one program,
+built without proofs, whose functions have all bodies and ask C which one is tried. Right bodies are built into it too: one that
+makes an EXPR of its function false fails. Worked rows are proved and run.
+
+With --reasons each verdict is printed, else what failed and what is told in place of an EXPR. What passed is kept until something
+changes that it read; --from-nothing judges it all the same. Libraries below a crate are built by `rt lib` if they aren't there.
+The last line is 'N passed, M failed'.
 """
 import argparse
 import os
@@ -23,86 +27,58 @@ import shutil
 import subprocess
 import sys
 import tempfile
-import threading
-from concurrent.futures import Future, ThreadPoolExecutor
+from concurrent.futures import ThreadPoolExecutor
 
-from answers import is_proved, lacking
-from functions import attributes_of, blank, is_blank, is_in_cycle, modules_of_types, names_in, path_of, pieces, twin_of, without_tactic
-from kept import Refusals
-from lanes import Lanes
+from edits import RightBody, head_and_body, read_edits, setup_of
+from functions import names_in, pieces
+from kept import Kept
 
 ROOT = pathlib.Path(os.environ.get("ROOT") or pathlib.Path(__file__).resolve().parent.parent)
-LANES = Lanes()
-CLAUSE = re.compile(r"(?m)^ *(?:ensures|requires|ghost)\b.*$")
-OWN_PROOFS = ("Answers", "Invariants", "Proof")
-# An answer that is none. Without a wrong one, a check that leaves a goal of a function open loads everything once more, to offer
-# what to write for it.
-NO_OFFER = "\npub no-offer : no-offer\nno-offer = no-offer\n"
+MEMORY_OF_A_CHECK = 5 << 30
+# What the check of a single function says beside its goals: what it calls isn't checked again.
+NO_GOAL = re.compile(r"^it calls |^it passes the block ")
+SWITCH = """
+unsafe extern "C" {
+    safe fn wrong_body_begin(number: u32);
+    safe fn wrong_body_is(number: u32) -> bool;
+}
+
+pub fn is_tried(number: u32) -> bool {
+    wrong_body_is(number)
+}
+
+#[cfg(test)]
+pub fn try_body(number: u32) {
+    wrong_body_begin(number)
+}
+"""
+SWITCH_IN_C = """#include <stdint.h>
+static uint32_t tried;
+void wrong_body_begin(uint32_t number) { tried = number; }
+_Bool wrong_body_is(uint32_t number) { return tried == number; }
+"""
+TEST = """
+#[cfg(test)]
+mod {module} {{
+    use super::*;
+
+    #[test]
+    fn it(rt: HostRuntime) {{
+        crate::try_body({number});
+        let said = match {call} {{
+            Some(true) => "holds",
+            Some(false) => "fails",
+            None => "isn't reached",
+        }};
+        println!(rt; "{{said}}").unwrap();
+    }}
+}}
+"""
 
 
-class BadEdit(Exception):
-    """Why an edit shows nothing."""
-
-
-def replaced(source, old, new):
-    """A source with a text that occurs once, or else is one whole line, in place of which another stands."""
-    if old and source.count(old) == 1:
-        return source.replace(old, new)
-    lines = source.split("\n")
-    if lines.count(old) != 1:
-        raise BadEdit(f"its old text stands {source.count(old)} times, and not once: {old}")
-    return "\n".join(new if line == old else line for line in lines)
-
-
-class Edit:
-    """A wrong body: the pieces of one source file that it changes, by their index."""
-
-    def __init__(self, path):
-        self.crate, self.name, self.text = path.parent.parent.name, path.stem, path.read_text()
-        lines = [line.partition(": ") for line in self.text.splitlines()]
-        words = [word.removesuffix(":") for word, _, _ in lines]
-        if len(words) < 4 or words != ["function", "file", *["old", "new"] * (len(words) // 2 - 1)]:
-            raise BadEdit("it isn't a function, a file, and pairs of an old and a new text")
-        self.function, self.file, *texts = (text for _, _, text in lines)
-        source = ROOT / "crates" / self.crate / self.file
-        if not self.file.startswith("src/") or not source.is_file():
-            raise BadEdit(f"there is no source file {self.file}")
-        edited = source.read_text()
-        for old, new in zip(texts[::2], texts[1::2]):
-            edited = replaced(edited, old, new)
-        self.compare(pieces(source.read_text()), pieces(edited))
-
-    def __str__(self):
-        return f"{self.crate}/{self.name}"
-
-    def compare(self, before, after):
-        if len(before) != len(after) or before[::2] != after[::2]:
-            raise BadEdit("it changes something outside of functions")
-        self.changes = {at: new for at, (old, new) in enumerate(zip(before, after)) if new != old}
-        for at, new in self.changes.items():
-            if CLAUSE.findall(before[at]) != CLAUSE.findall(new):
-                raise BadEdit("it changes a contract")
-        changed = "".join(before[at] for at in self.changes)
-        name = self.function.split("::")[-1]
-        if not re.search(rf"\bfn {name}\b", changed):
-            raise BadEdit(f"it changes nothing in {self.function}")
-        can_have = len(self.changes) == 1 and may_have_twin(self.crate, self.function, before, *self.changes)
-        self.twin = re.sub(r"\W", "_", f"{name}_of_{self.name}") if can_have else None
-
-
-def proofs_of(function):
-    return pathlib.Path("proofs", *function.split("::"))
-
-
-def may_have_twin(crate, function, text, at):
-    """Whether a function may stand twice: it is no method of a trait, in no cycle, and no closure or lemma of it has proof files."""
-    around = re.findall(r"(?m)^(?!//)(\S.*)$", "".join(text[:at])) if text[at].startswith(" ") else []
-    is_of_trait = around and not re.match(r"impl\b(?!.* for )", around[-1])
-    if is_in_cycle(text[at], text[at - 1]) or is_of_trait:
-        return False
-    folder, name = ROOT / "crates" / crate, function.rpartition("::")[2]
-    own = [it for it in (folder / proofs_of(function)).rglob("*") if it.stem not in OWN_PROOFS]
-    return not own and not [*(folder / "proofs").rglob(f"fn/**/{name}/*")]
+def run(*words, folder=ROOT, **more):
+    how = {"stdin": subprocess.DEVNULL, "stdout": subprocess.PIPE, "stderr": subprocess.STDOUT, "text": True, "errors": "replace"}
+    return subprocess.run(words, cwd=folder, env={**os.environ, **more}, **how).stdout
 
 
 def libraries_below():
@@ -113,269 +89,232 @@ def libraries_below():
     return {name: list(every(name)) for name in named}
 
 
-def tell(lines, to):
-    """Prints whole lines at once, since crates are tried side by side."""
-    to.write("".join(f"{line}\n" for line in lines))
-    to.flush()
-
-
-def run(*words, folder=ROOT):
-    how = {"stdin": subprocess.DEVNULL, "stdout": subprocess.PIPE, "stderr": subprocess.STDOUT, "text": True}
-    return subprocess.run(words, cwd=folder, **how)
-
-
-def toolchain():
-    """The module of the toolchain that knows how its prover is called."""
-    sys.path.insert(0, str(pathlib.Path(run("rt", "doc").stdout.strip()).parent / "bin"))
-    import rtlib
-
-    return rtlib
-
-
-def words_of_check(folder, functions):
-    """The prover's own words for a check of these functions. `rt check` would first compare each library with its sources."""
-    rtlib, only = toolchain(), [word for function in functions for word in ("--only", function)]
-    crate = next(it for it in rtlib.crates_below(str(folder.parent.parent)) if it.name == folder.name)
-    tests = ["--test"] if crate.has_tests() else []
-    return [rtlib.RATTLE, "check", *crate.words(["--jobs", "1", *only, *tests], keeps=False)]
-
-
-def check(folder, functions):
-    """What a check of these functions says; its seconds of the processors are told."""
-    words = words_of_check(folder, functions)
-    said, seconds = LANES.run(words, folder, len(functions) * words.count("--extern"))
-    tell([f"{folder.name}: a check of {len(functions)} functions took {seconds:.0f} s"], sys.stderr)
-    return said
-
-
-def copy_of(crate, built, room):
-    """Copies what checks of the crate read, and links the libraries from their folders."""
-    left_out = shutil.ignore_patterns("out", "wrong-bodies", "must-fail")
-    shutil.copytree(ROOT / "crates", room / "crates", ignore=left_out)
+def copy_of(crate, below, room):
+    """Copies the sources of a crate and of those below it, and links what is built of these."""
     for name in ("crates.txt", "HANDLES"):
         shutil.copy(ROOT / name, room / name)
-    for other in (room / "crates").iterdir():
-        (other / "out").mkdir()
-    for name, folder in built.items():
-        (room / "crates" / name / "out" / "rlib").symlink_to(folder)
+    (room / ".git").mkdir()
+    for name in [*below, crate]:
+        shutil.copytree(ROOT / "crates" / name, room / "crates" / name, ignore=shutil.ignore_patterns("out", "*-bodies", "must-fail"))
+        if name != crate and (ROOT / "crates" / name / "out").is_dir():
+            shutil.copytree(ROOT / "crates" / name / "out", room / "crates" / name / "out", copy_function=link, symlinks=True)
+    lines = (ROOT / "crates.txt").read_text().splitlines(keepends=True)
+    (room / "crates.txt").write_text("".join(it for it in lines if re.match(r"\w*", it)[0] in ("", crate, *below)))
     return room / "crates" / crate
 
 
-def parts_of(text, changed, is_alone, found, left):
-    """The pieces of a source file as they are tried, each with the function that is checked in it, if there is one. A function
-    of a cycle is never blank, since its cycle names it."""
-    parts = []
-    for at, piece in enumerate(text):
-        is_left = at % 2 and (is_alone or is_in_cycle(piece, text[at - 1]))
-        left.update(names_in(piece) if is_left or at in changed else ())
-        for number, (edit, new) in enumerate(changed.get(at, ())):
-            function = edit.function
-            if number:
-                function = f"{edit.function.rpartition('::')[0]}::{edit.twin}".removeprefix("::")
-                before, new = twin_of(text[at - 1], new, edit.twin)
-                parts.append((before, None))
-            parts.append((new, function))
-            found[function] = edit
-        if at not in changed and at % 2 and not is_left:
-            parts[-1] = (without_tactic(parts[-1][0]), None)
-            piece = blank(piece)
-        parts += [] if at in changed else [(piece, None)]
-    return parts
+def link(source, target):
+    try:
+        os.link(source, target)
+    except OSError:
+        shutil.copy2(source, target)
 
 
-def write(edits, folder, is_alone):
-    """Writes the sources of the copy with these edits. Gives the edit of each function that is checked, by its path, and where
-    these functions stand: the path for each line of a file, counted from 1."""
-    crate, left, found, stands = ROOT / "crates" / folder.name, set(), {}, {}
-    for path in (crate / "src").rglob("*.rt"):
-        file, changed, line = path.relative_to(crate), {}, 1
+class Source:
+    """The sources of a copy, to which text is added at the ends of files; knows whose each line is."""
+
+    def __init__(self, folder):
+        self.folder, self.texts, self.owners = folder, {}, {}
+
+    def text(self, file):
+        return self.texts.get(file) or self.texts.setdefault(file, (self.folder / file).read_text())
+
+    def add(self, file, text, owner=None):
+        before = self.text(file)
+        self.own(file, before.count("\n") + 1, text.count("\n") + 2, owner)
+        self.texts[file] = f"{before}\n{text}\n"
+
+    def own(self, file, first, count, owner):
+        self.owners.update({(file, line): owner for line in range(first, first + count)})
+
+    def write(self):
+        for file, text in self.texts.items():
+            (self.folder / file).write_text(text)
+
+    def blamed(self, said):
+        """The owners of lines in which errors are, with the first error of each."""
+        found = {}
+        for file, line, why in re.findall(r"(?m)(src/\S+?):(\d+):\d+: (error.*)$", said):
+            if owner := self.owners.get((file, int(line))):
+                found.setdefault(owner, why)
+        return found
+
+
+def proved(crate, edits, items, cases, below):
+    """What isn't proved of the witnesses of these edits: why, by edit."""
+    with tempfile.TemporaryDirectory(prefix="wrong-bodies-") as room:
+        source = Source(copy_of(crate, below, pathlib.Path(room)))
+        for file, text in items.items():
+            source.add(file, text)
+        asserted = lambda parts: [f"let holds = {part}; prove!(holds);" for part in parts]
         for edit in edits:
-            for at, new in edit.changes.items() if edit.file == str(file) else ():
-                changed.setdefault(at, []).append((edit, new))
-        parts = parts_of(pieces(path.read_text()), changed, is_alone, found, left)
-        before = ""
-        for part, function in parts:
-            end = line + part.count("\n")
-            begin = line - attributes_of(before).count("\n")
-            stands.update({(str(file), at): function for at in range(begin, end) if function})
-            line, before = end, part
-        (folder / file).write_text("".join(part for part, _ in parts))
-    write_proofs(crate / "proofs", folder / "proofs", left)
-    for function, edit in found.items():
-        write_twins_proofs(folder, edit.function, function)
-    for function in [] if is_alone else [*found, *blanks_of(folder)]:
-        refuse_offers(folder / proofs_of(function))
-    return found, stands
+            source.add(edit.file, edit.witness(asserted, cases), edit)
+        source.write()
+        only = [word for edit in edits for word in ("--only", edit.path())]
+        said = run("rt", "check", *only, folder=source.folder)
+    verdicts = dict(re.findall(rf"(?m)^fn {crate}::(\S+): (proved|not proved|no proof: .*|could not tell.*)$", said))
+    failed, blamed = {}, source.blamed(said)
+    for edit in edits:
+        verdict = verdicts.get(edit.path(), "")
+        goals = [it for it in verdict.removeprefix("no proof: ").split("; ") if not NO_GOAL.search(it)]
+        if edit in blamed or (verdict != "proved" and (not verdict or goals)):
+            notes = re.findall(rf"(?m)^note: .*witness_{edit.name}.*$", said)
+            failed[edit] = blamed.get(edit) or "; ".join(goals) or ("; ".join(notes) or said[-1500:])
+    return failed
 
 
-def blanks_of(folder):
-    """The paths of a copy's blank functions."""
-    texts = {path.relative_to(folder): path.read_text() for path in (folder / "src").rglob("*.rt")}
-    found, modules = [], modules_of_types(texts)
-    for file, parts in ((file, pieces(text)) for file, text in texts.items()):
-        blank_at = [at for at in range(1, len(parts), 2) if is_blank(parts[at])]
-        found += [path_of(file, "".join(parts[:at]), parts[at], modules) for at in blank_at]
+def switched(source, edits):
+    """Writes all bodies of each function that edits change, and asks which is tried."""
+    for file in {edit.file for edit in edits}:
+        parts, line = pieces(source.text(file)), 1
+        for at, part in enumerate(parts):
+            line += part.count("\n") if at % 2 == 0 else 0
+            if at % 2:
+                parts[at] = part = with_bodies(source, file, line, part, [(it, it.bodies[at]) for it in edits if it.file == file and at in it.bodies])
+                line += part.count("\n")
+        source.texts[file] = "".join(parts)
+
+
+def with_bodies(source, file, line, function, bodies):
+    head, body = head_and_body(function)
+    if not bodies:
+        return function
+    text = head
+    for number, (edit, new) in enumerate(bodies):
+        text += f"{'else ' if number else ''}if crate::is_tried({edit.number}) {{\n"
+        source.own(file, line + text.count("\n"), new.count("\n") + 1, edit)
+        text += f"{new}}} "
+    return f"{text}else {{\n{body}}}\n{re.match(' *', function)[0]}}}\n"
+
+
+def tried(crate, edits, rights, items, cases, below):
+    """What a program says that runs the `holds` of each edit, of the functions as they are and of the edit, and of each right body:
+    a word for each (edit, body), or why there is none."""
+    edits, rights, faults = [*edits], [*rights], {}
+    for number, edit in enumerate([*edits, *rights], 1):
+        edit.number = number
+    while edits:
+        with tempfile.TemporaryDirectory(prefix="wrong-bodies-") as room:
+            source = Source(copy_of(crate, below, pathlib.Path(room)))
+            tests = write_program(source, edits, rights, items, cases)
+            said = run("rt", "try", "--test", "--steps", "1", "--seconds", "20", folder=source.folder, RT_ALLOW_C="1")
+        words = results(said)
+        if words:
+            return {key: words.get(module, "stops") for module, key in tests.items()}, faults
+        blamed = source.blamed(said)
+        if not blamed:
+            return {}, {**faults, **{edit: f"NOT TRIED: {said[-1500:]}" for edit in edits}}
+        faults.update({edit: f"BAD EDIT: {why}" for edit, why in blamed.items()})
+        edits = [edit for edit in edits if edit not in blamed]
+        rights = [edit for edit in rights if edit not in blamed]
+    return {}, faults
+
+
+def write_program(source, edits, rights, items, cases):
+    """Writes the program of `tried`. Gives what each module of a test tries."""
+    root = "src/lib.rt" if (source.folder / "src/lib.rt").exists() else "src/main.rt"
+    switched(source, [it for it in [*edits, *rights] if not it.is_row])
+    source.add(root, SWITCH)
+    (source.folder / "c").mkdir()
+    (source.folder / "c" / "wrong_body.c").write_text(SWITCH_IN_C)
+    for file, text in items.items():
+        source.add(file, text)
+    tests = {}
+    for edit in edits:
+        returned = lambda parts: [f"return Some({' && '.join(f'({it})' for it in parts)});"]
+        source.add(edit.file, edit.witness(returned, cases), edit)
+        others = [it for it in rights if it.file == edit.file and it.function == edit.function]
+        for number, body in [(0, None), *([(edit.number, edit)] if not edit.is_row else []), *((it.number, it) for it in others)]:
+            module = f"try_{number}_of_{edit.name}"
+            call = cases[edit.case][1].replace("NAME", f"witness_{edit.name}")
+            source.add(edit.file, TEST.format(module=module, number=number, call=call), edit)
+            tests[module] = (edit, body)
+    source.write()
+    return tests
+
+
+def results(said):
+    """What each test said, by its module; nothing if none ran."""
+    found = {}
+    for module, verdict, words in re.findall(r"(?m)^test (?:\S*::)?(try_\d+_of_\w+)::it \.\.\. (\w+)\n((?:    .*\n)*)", said):
+        last = words.strip().splitlines()[-1:] if verdict == "ok" else ["stops"]
+        found[module] = (last or [""])[0].strip()
     return found
 
 
-def refuse_offers(proofs):
-    """Writes an answer that is none among those of a function."""
-    proofs.mkdir(parents=True, exist_ok=True)
-    with (proofs / "Answers.antt").open("a") as answers:
-        answers.write(NO_OFFER)
-
-
-def write_proofs(own, copied, left):
-    """Writes the proofs of the copy: the lemmas, and of functions' own files those of the functions that are left, and of cycles,
-    whose functions are."""
-    shutil.rmtree(copied, ignore_errors=True)
-    if own.is_dir():
-        files = {f"{name}.antt" for name in OWN_PROOFS}
-        is_left = lambda folder: any(it in left or it[0] == "+" for it in pathlib.Path(folder).relative_to(own).parts)
-        shutil.copytree(own, copied, ignore=lambda folder, names: () if is_left(folder) else files & {*names})
-
-
-def write_twins_proofs(folder, function, twin):
-    """Writes the proof files of a twin, which are those of the function under its name."""
-    own = folder / proofs_of(function)
-    if function != twin and own.is_dir():
-        dotted = lambda path: f".proofs.{path.replace('::', '.')}."
-        (folder / proofs_of(twin)).mkdir()
-        for file in own.glob("*.antt"):
-            text = file.read_text().replace(dotted(function), dotted(twin))
-            (folder / proofs_of(twin) / file.name).write_text(text)
-
-
-def try_group(edits, folder, is_alone):
-    """What the check of the copy with these edits says: for each edit what its function lacks, or why it isn't refused."""
-    found, stands = write(edits, folder, is_alone)
-    said = check(folder, found)
-    if not re.search(r"(?m)^only=", said):
-        return {edit: (False, "NOTHING JUDGED, the check said:\n" + said[-2000:]) for edit in edits}
-    lacks = lacking(folder.name, said, stands)
-    is_whole = lambda function: is_proved(folder.name, function, said)
-    why = lambda function: "NOT REFUSED" if is_whole(function) else "NOT PROVED, BY NAMES ALONE"
-    return {edit: (function in lacks, lacks.get(function) or why(function)) for function, edit in found.items()}
-
-
-def results_of(edits, built):
-    """What became of some edits of a crate, check by check: of all together, but for second edits of a function that has no twin,
-    and then of each that wasn't refused there."""
-    together, taken = [], set()
+def judge(crate, edits, rights, below):
+    """The verdict on each edit and right body of a crate: whether it passed, and why."""
+    items, cases = setup_of(ROOT, crate)
     for edit in edits:
-        places = {(edit.file, at) for at in edit.changes}
-        together += [edit] if edit.twin or not places & taken else []
-        taken |= places
-    with tempfile.TemporaryDirectory(prefix="wrong-bodies-") as room:
-        folder = copy_of(edits[0].crate, built, pathlib.Path(room))
-        tried = try_group(together, folder, is_alone=False)
-        refused = {edit: result for edit, result in tried.items() if result[0]}
-        yield refused
-        for edit in edits:
-            if edit not in refused:
-                yield try_group([edit], folder, is_alone=True)
-
-
-def try_crate(edits, libraries, own, kept, show):
-    """Tries the edits of a crate once the libraries below it are there, but for those whose refusal is kept; shows what each check
-    showed, once its own library is there too, if that is made meanwhile."""
-    tried = {}
-
-    def take(results):
-        tried.update(results)
-        show(results)
-
-    try:
-        take({edit: (True, why) for edit, why in kept.known(edits).items()})
-        tell([f"{edits[0].crate}: {len(tried)} of {len(edits)} kept"], sys.stderr)
-        if left := [edit for edit in edits if edit not in tried]:
-            for results in results_of(left, {name: library.result() for name, library in libraries.items()}):
-                if own:
-                    own.result()
-                take(results)
-                kept.keep({edit: why for edit, (is_refused, why) in results.items() if is_refused})
-    except Exception as why:
-        take({edit: (False, f"NOT TRIED: {why}") for edit in edits if edit not in tried})
-    return tried
-
-
-def build(crate):
-    """Builds a library that checks of other crates stand on, unless it is there, and gives its folder."""
-    ran = run("rt", "lib", folder=ROOT / "crates" / crate)
-    if ran.returncode:
-        raise RuntimeError(f"{crate} is not proved:\n{ran.stdout[-2000:]}")
-    return ROOT / "crates" / crate / "out" / "rlib"
-
-
-def hear(libraries, folder):
-    """Reads from the standard input which crates are proved, until it ends. A program has no library."""
-    try:
-        for crate in map(str.strip, sys.stdin):
-            if crate in libraries and not libraries[crate].done():
-                is_there = (folder / crate).is_dir() or (ROOT / "crates" / crate / "src" / "main.rt").exists()
-                libraries[crate].set_result(folder / crate if is_there else build(crate))
-    finally:
-        for crate in [crate for crate, library in libraries.items() if not library.done()]:
-            libraries[crate].set_exception(RuntimeError(f"{crate} is not proved"))
-        LANES.is_quiet.set()
-
-
-def read_edits(wanted):
-    """The wanted edits, or all, and why others show nothing."""
-    edits, bad = [], []
-    for path in sorted((ROOT / "crates").glob("*/wrong-bodies/*.edit")):
-        crate = path.parent.parent.name
-        if not wanted or {crate, f"{crate}/{path.stem}"} & set(wanted):
-            try:
-                edits.append(Edit(path))
-            except BadEdit as why:
-                bad.append(f"{crate}/{path.stem}: BAD EDIT: {why}")
-    return edits, bad
-
-
-def try_all(edits, below, beside, attempt):
-    """Tries the edits of several crates at once, those of most edits first. A crate waits for those that it stands on, and for
-    its own library if that is built here: a folder that is being written can't be copied."""
-    of_crate, tried = {}, {}
-    for edit in edits:
-        of_crate.setdefault(edit.crate, []).append(edit)
-    with ThreadPoolExecutor(1) as builder, ThreadPoolExecutor(max(len(of_crate), 1)) as pool:
-        if beside:
-            libraries = {crate: Future() for crate in below}
-            threading.Thread(target=hear, args=(libraries, beside)).start()
+        if edit.case not in cases:
+            edit.told, edit.holds = "", []
+    judged = [edit for edit in edits if edit.holds]
+    verdicts = {edit: (True, f"told: {edit.told}") if edit.told else (False, "BAD EDIT: no such case") for edit in edits if not edit.holds}
+    words, faults = tried(crate, judged, rights, items, cases, below)
+    verdicts.update({edit: (False, why) for edit, why in faults.items()})
+    left = [edit for edit in judged if edit not in faults]
+    unproved = proved(crate, left, items, cases, below) if left else {}
+    for edit in left:
+        true, of_edit = words.get((edit, None)), words.get((edit, edit))
+        if true != "holds":
+            verdicts[edit] = (False, f"NOT TRUE of the function as it is, where it {true}")
+        elif of_edit in ("holds", "isn't reached"):
+            verdicts[edit] = (False, f"NOT WRONG: of the edit it {of_edit} too")
+        elif edit in unproved:
+            verdicts[edit] = (False, f"NOT PROVED: {unproved[edit]}")
         else:
-            order = dict.fromkeys(low for crate in of_crate for low in below[crate])
-            libraries = {crate: builder.submit(build, crate) for crate in order}
-        first = lambda crate: below[crate] if beside else [*below[crate], crate]
-        awaited = lambda crate: {low: libraries[low] for low in first(crate) if low in libraries}
-        most_first = sorted(of_crate, key=lambda crate: -len(of_crate[crate]))
-        for result in pool.map(lambda crate: attempt(of_crate[crate], awaited(crate), libraries.get(crate)), most_first):
-            tried |= result
-    return tried
+            verdicts[edit] = (True, "a worked row" if edit.is_row else f"excluded: of the edit it {of_edit}")
+    for right in rights:
+        wrong = [str(edit) for (edit, body), word in words.items() if body is right and word != "holds"]
+        verdicts.setdefault(right, (not wrong, f"A RIGHT BODY IS JUDGED WRONG by {', '.join(wrong)}" if wrong else "a right body"))
+    return verdicts
+
+
+def wanted_of(names, below):
+    """The edits and right bodies to judge, by crate, and what shows nothing."""
+    found, bad = {}, []
+    for crate in below:
+        edits, faults = read_edits(ROOT, crate)
+        rights, more = read_edits(ROOT, crate, RightBody)
+        is_wanted = lambda it: not names or crate in names or str(it) in names
+        bad += [(it, why) for it, why in faults + more if is_wanted(it)]
+        if edits := [it for it in edits if is_wanted(it)]:
+            found[crate] = (edits, rights if not names or crate in names else [])
+    return found, bad
+
+
+def build(crates):
+    """Builds libraries, lowest first, unless they are there. An error shows where one is needed."""
+    for crate in crates:
+        run("rt", "lib", folder=ROOT / "crates" / crate)
+
+
+def at_once():
+    memory = os.sysconf("SC_PHYS_PAGES") * os.sysconf("SC_PAGE_SIZE")
+    return max(min(len(os.sched_getaffinity(0)), memory // MEMORY_OF_A_CHECK), 1)
 
 
 def main(words):
     options = argparse.ArgumentParser(description=__doc__, formatter_class=argparse.RawDescriptionHelpFormatter)
     options.add_argument("--reasons", action="store_true")
     options.add_argument("--from-nothing", action="store_true")
-    options.add_argument("--beside", metavar="FOLDER", type=pathlib.Path)
     options.add_argument("wanted", nargs="*", metavar="CRATE[/NAME]")
     given = options.parse_args(words)
     below = libraries_below()
-    edits, bad = read_edits(given.wanted)
-    tell(bad, sys.stdout)
-    if given.beside:
-        LANES.is_quiet.clear()
-    rtlib = toolchain()
-    kit = run("rt", "version").stdout, *(pathlib.Path(it).read_bytes() for it in (f"{rtlib.KIT}/WHAT", rtlib.__file__))
-    kept = Refusals(ROOT, below, kit, not given.from_nothing)
-    lines = lambda result: [f"{it}: {why}" for it, (is_refused, why) in result.items() if given.reasons or not is_refused]
-    show = lambda result: tell(lines(result), sys.stdout)
-    tried = try_all(edits, below, given.beside, lambda edits, libraries, own: try_crate(edits, libraries, own, kept, show))
-    refused = sum(is_refused for is_refused, _ in tried.values())
-    failed = len(bad) + len(edits) - refused
-    tell([f"{refused} passed, {failed} failed"], sys.stdout)
-    return 1 if failed or not refused else 0
+    found, bad = wanted_of(given.wanted, below)
+    kept = Kept(ROOT, below, not given.from_nothing)
+    build(dict.fromkeys(low for crate in found for low in below[crate]))
+    verdicts = [(it, (False, why)) for it, why in bad]
+    with ThreadPoolExecutor(at_once()) as pool:
+        judged = lambda crate: kept.or_made(crate, found[crate], lambda *those: judge(crate, *those, below[crate]))
+        for result in pool.map(judged, found):
+            verdicts += result.items()
+    for it, (is_passed, why) in verdicts:
+        if given.reasons or not is_passed or why.startswith("told"):
+            print(f"{it}: {why}")
+    passed = sum(is_passed for _, (is_passed, _) in verdicts)
+    print(f"{passed} passed, {len(verdicts) - passed} failed")
+    return 1 if passed < len(verdicts) or not passed else 0
 
 
 if __name__ == "__main__":
