@@ -26,19 +26,21 @@ build:
 	$(NEEDS_TOOLCHAIN)
 	cd crates/hole && rt run -- --version
 
-# Every proof and test, the wrong bodies, and the program as a user runs it; a table of all of it at the end. Proofs and refusals
-# that stand are kept.
+# The gate: every proof, the wrong bodies, and the program as a user runs it. What was proved or judged before and still stands is
+# kept. `rt ci` gives each processor one crate at a time, because two jobs for one crate load its libraries twice.
 .PHONY: test
 test:
 	$(NEEDS_TOOLCHAIN)
-	tools/gate.py
+	RT_JOBS=$${RT_JOBS:-$$(nproc)} rt ci
+	tools/wrong_bodies.py
+	tests/run_all.py
 
 # What needs no proof, in minutes: scripts, links, and most tests of the program, built without its proofs if need be. Some tests
 # measure times, and may fail on a busy machine.
 .PHONY: quick
 quick:
 	$(NEEDS_TOOLCHAIN)
-	tools/gate.py --quick
+	tests/run_all.py --quick
 
 # Compares the program with the plain models of tests/, on scripts, folders and request lines that are drawn anew each time.
 # If there is no proved program, it begins with an hour of proofs.

@@ -9,7 +9,8 @@ import json
 import os
 import pathlib
 import re
-import subprocess
+
+from toolchain import kit
 
 TOOLS = pathlib.Path(__file__).resolve().parent
 # a store that can't be used, or no home for it
@@ -30,10 +31,10 @@ def sum_of(*parts):
 
 def sum_of_kit():
     """A sum of the toolchain: its identity, and the size and time of each file that a check or a program reads."""
-    kit = pathlib.Path(subprocess.run(("rt", "doc"), stdout=subprocess.PIPE, text=True).stdout.strip()).parent
-    files = [(kit / part, at, name) for part in PARTS_OF_KIT for at, _, names in os.walk(kit / part) for name in names]
-    seen = [(at, name, os.lstat(f"{at}/{name}").st_size, os.lstat(f"{at}/{name}").st_mtime_ns) for _, at, name in sorted(files)]
-    return sum_of((kit / "KIT-ID").read_text(), seen)
+    folder = kit()
+    paths = sorted(f"{at}/{name}" for part in PARTS_OF_KIT for at, _, names in os.walk(folder / part) for name in names)
+    seen = [(path, os.lstat(path).st_size, os.lstat(path).st_mtime_ns) for path in paths if "__pycache__" not in path]
+    return sum_of((folder / "KIT-ID").read_text(), seen)
 
 
 class Kept:

@@ -16,8 +16,8 @@ built without proofs, whose functions have all bodies and ask C which one is tri
 makes an EXPR of its function false fails. Worked rows are proved and run.
 
 With --reasons each verdict is printed, else what failed and what is told in place of an EXPR. What passed is kept until something
-changes that it read; --from-nothing judges it all the same. Libraries below a crate are built by `rt lib` if they aren't there.
-The last line is 'N passed, M failed'.
+changes that it read; --from-nothing judges it all the same. Libraries below a crate are those that `rt ci` or `rt lib` left in out/,
+and are built by `rt lib` if one is missing or older than its sources. The last line is 'N passed, M failed'.
 """
 import argparse
 import os
@@ -32,6 +32,7 @@ from concurrent.futures import ThreadPoolExecutor
 from edits import RightBody, head_and_body, read_edits, setup_of
 from functions import names_in, pieces
 from kept import Kept
+from toolchain import is_up_to_date, words_of_check
 
 ROOT = pathlib.Path(os.environ.get("ROOT") or pathlib.Path(__file__).resolve().parent.parent)
 MEMORY_OF_A_CHECK = 5 << 30
@@ -96,8 +97,8 @@ def copy_of(crate, below, room):
     (room / ".git").mkdir()
     for name in [*below, crate]:
         shutil.copytree(ROOT / "crates" / name, room / "crates" / name, ignore=shutil.ignore_patterns("out", "*-bodies", "must-fail"))
-        if name != crate and (ROOT / "crates" / name / "out").is_dir():
-            shutil.copytree(ROOT / "crates" / name / "out", room / "crates" / name / "out", copy_function=link, symlinks=True)
+        if name != crate and (built := ROOT / "crates" / name / "out" / "rlib").is_dir():
+            shutil.copytree(built, room / "crates" / name / "out" / "rlib", copy_function=link)
     lines = (ROOT / "crates.txt").read_text().splitlines(keepends=True)
     (room / "crates.txt").write_text("".join(it for it in lines if re.match(r"\w*", it)[0] in ("", crate, *below)))
     return room / "crates" / crate
@@ -140,8 +141,17 @@ class Source:
         return found
 
 
-def proved(crate, edits, items, cases, below):
-    """What isn't proved of the witnesses of these edits: why, by edit."""
+def unproved(crate, edits, items, cases, below):
+    """Why the witnesses of some edits aren't proved, by edit. Those that the prover can't read are left out of a second check."""
+    said, blamed = checked(crate, edits, items, cases, below)
+    left = [edit for edit in edits if edit not in blamed]
+    if blamed and left:
+        return {**blamed, **unproved(crate, left, items, cases, below)}
+    return {**blamed, **{edit: why for edit in left if (why := lacking(crate, edit, said))}}
+
+
+def checked(crate, edits, items, cases, below):
+    """What a check of the witnesses of these edits says, and the errors in their text, by edit."""
     with tempfile.TemporaryDirectory(prefix="wrong-bodies-") as room:
         source = Source(copy_of(crate, below, pathlib.Path(room)))
         for file, text in items.items():
@@ -150,17 +160,17 @@ def proved(crate, edits, items, cases, below):
         for edit in edits:
             source.add(edit.file, edit.witness(asserted, cases), edit)
         source.write()
-        only = [word for edit in edits for word in ("--only", edit.path())]
-        said = run("rt", "check", *only, folder=source.folder)
-    verdicts = dict(re.findall(rf"(?m)^fn {crate}::(\S+): (proved|not proved|no proof: .*|could not tell.*)$", said))
-    failed, blamed = {}, source.blamed(said)
-    for edit in edits:
-        verdict = verdicts.get(edit.path(), "")
-        goals = [it for it in verdict.removeprefix("no proof: ").split("; ") if not NO_GOAL.search(it)]
-        if edit in blamed or (verdict != "proved" and (not verdict or goals)):
-            notes = re.findall(rf"(?m)^note: .*witness_{edit.name}.*$", said)
-            failed[edit] = blamed.get(edit) or "; ".join(goals) or ("; ".join(notes) or said[-1500:])
-    return failed
+        said = run(*words_of_check(source.folder, [edit.path() for edit in edits]), folder=source.folder)
+        return said, source.blamed(said)
+
+
+def lacking(crate, edit, said):
+    """What the witness of an edit lacks, as a check said; nothing if it is proved, but for what it calls."""
+    found = re.search(rf"(?m)^fn {crate}::{re.escape(edit.path())}: (proved|not proved|no proof: .*|could not tell.*)$", said)
+    if not found:
+        return f"the check said nothing of it: {said[-1500:]}"
+    goals = [it for it in found[1].removeprefix("no proof: ").split("; ") if not NO_GOAL.search(it)]
+    return "" if found[1] == "proved" else "; ".join(goals)
 
 
 def switched(source, edits):
@@ -253,19 +263,19 @@ def judge(crate, edits, rights, below):
     words, faults = tried(crate, judged, rights, items, cases, below)
     verdicts.update({edit: (False, why) for edit, why in faults.items()})
     left = [edit for edit in judged if edit not in faults]
-    unproved = proved(crate, left, items, cases, below) if left else {}
+    lacks = unproved(crate, left, items, cases, below) if left else {}
     for edit in left:
         true, of_edit = words.get((edit, None)), words.get((edit, edit))
         if true != "holds":
             verdicts[edit] = (False, f"NOT TRUE of the function as it is, where it {true}")
         elif of_edit in ("holds", "isn't reached"):
             verdicts[edit] = (False, f"NOT WRONG: of the edit it {of_edit} too")
-        elif edit in unproved:
-            verdicts[edit] = (False, f"NOT PROVED: {unproved[edit]}")
+        elif edit in lacks:
+            verdicts[edit] = (False, f"NOT PROVED: {lacks[edit]}")
         else:
             verdicts[edit] = (True, "a worked row" if edit.is_row else f"excluded: of the edit it {of_edit}")
     for right in rights:
-        wrong = [str(edit) for (edit, body), word in words.items() if body is right and word != "holds"]
+        wrong = [str(edit) for (edit, body), word in words.items() if body is right and word != "holds" and verdicts[edit][0]]
         verdicts.setdefault(right, (not wrong, f"A RIGHT BODY IS JUDGED WRONG by {', '.join(wrong)}" if wrong else "a right body"))
     return verdicts
 
@@ -283,10 +293,11 @@ def wanted_of(names, below):
     return found, bad
 
 
-def build(crates):
+def build(crates, below):
     """Builds libraries, lowest first, unless they are there. An error shows where one is needed."""
     for crate in crates:
-        run("rt", "lib", folder=ROOT / "crates" / crate)
+        if not is_up_to_date(ROOT, crate, below[crate]):
+            run("rt", "lib", folder=ROOT / "crates" / crate)
 
 
 def at_once():
@@ -303,7 +314,7 @@ def main(words):
     below = libraries_below()
     found, bad = wanted_of(given.wanted, below)
     kept = Kept(ROOT, below, not given.from_nothing)
-    build(dict.fromkeys(low for crate in found for low in below[crate]))
+    build(dict.fromkeys(low for crate in found for low in below[crate]), below)
     verdicts = [(it, (False, why)) for it, why in bad]
     with ThreadPoolExecutor(at_once()) as pool:
         judged = lambda crate: kept.or_made(crate, found[crate], lambda *those: judge(crate, *those, below[crate]))
