@@ -6,9 +6,9 @@ that they reach.
     tools/audit.py PROMISE ..       prints the text of these promises, by number or name, each definition once
     tools/audit.py --crate CRATE    prints the contract of each public function of a crate
 
-The text holds no proof, no body and no import. Each definition follows the contract or definition that first names it. Types of
-the program appear as contracts see them: the value of their model, or their public fields. Words of the standard library and of
-mathlib are only listed. A line counts unless it is empty or a comment.
+The text holds no proof, no body, no import, no attribute and no private field. Each definition follows the contract or definition
+that first names it. Types of the program appear as contracts see them: the value of their model, or their public fields. Words of the
+standard library and of mathlib are only listed. Each line that is printed counts unless it is empty.
 """
 import pathlib
 import re
@@ -26,6 +26,9 @@ USE = re.compile(r"use (Rattle|mathlib)\.([\w.]+?)(?:\.\{([^}]*)\}| as (\w+))")
 RUST_USE = re.compile(r"(?m)^use ((?:\w+::)+)(\{[^}]*\}|\w+)")
 TYPE = re.compile(r"(?ms)^(?:pub(?:\(crate\))? )?(struct|enum|trait) (\w+)[^\n]*?(?:;$|\{\}$|\{$.*?^\}|$.*?^\})")
 CONSTANT = re.compile(r"(?m)^(?:pub(?:\(crate\))? )?const (\w+): [^=;\n]+ = [^;\n]+;$")
+# a public function with its comment, up to its body, and the type of an impl
+PUBLIC = re.compile(r"(?ms)^( *)((?:/// [^\n]*\n|\1///[^\n]*\n)+)(?:\1#\[[^\n]*\n)*\1(pub fn .*?)(?=^\1\{| \{$)")
+IMPL = re.compile(r"(?m)^impl(?:<[^{]*?>)? (?:[^{]*? for )?(\w+)[^{]*\{$")
 # how docs/PROMISES.md names the contracts of a promise, and one of them: its name, its crate, and the clauses that count
 PROMISE = re.compile(r"(?m)^Contracts \(`make audit PROMISE=([\w-]+)`\): (.*)$")
 CONTRACT = re.compile(r"\[`([^`]+)`\]\(\.\./crates/(\w+)/[^)]*\)(?: \(([^)]*)\))?")
@@ -42,9 +45,13 @@ class Item:
     text: str
     scope: dict
 
-    def read(self):
+    def lines(self):
         """The lines that are to be read."""
-        return [line for line in self.text.splitlines() if line.strip() and not line.strip().startswith(("--", "//"))]
+        return [line for line in self.text.splitlines() if line.strip()]
+
+    def words(self):
+        """The words of its definition, without those of comments."""
+        return WORD.findall("\n".join(line for line in self.lines() if not line.strip().startswith(("--", "//"))))
 
 
 def uses(text):
@@ -77,9 +84,11 @@ def types(path):
         model = re.search(rf"(?ms)^impl(?:<[^{{]*?>)? Model for {found[2]}\b.*?^}}", text)
         shown, inner = found[0], found[0] if found[1] == "trait" else ""
         if model:
-            kept = re.findall(r"(?ms)^    ghost (?:Value|view) = .*?\};$", model[0])
+            kept = re.findall(r"(?ms)^    ghost Value = .*?\};$", model[0])
             shown, inner = f"type {found[2]}, as contracts see it\n" + "\n".join(kept), model[0]
-        shown = "\n".join(line for line in shown.splitlines() if line.strip() and "ghost use" not in line)
+        is_private = lambda line: found[1] == "struct" and re.match(r"    (?:pub\(crate\) )?\w+: ", line)
+        hidden = lambda line: "ghost use" in line or line.strip().startswith("#[") or is_private(line)
+        shown = "\n".join(line for line in shown.splitlines() if line.strip() and not hidden(line))
         bound = dict.fromkeys(re.findall(r"(?m)^    (?:pub )?(\w+)(?::|,$|\()", shown))
         yield Item(file.parts[0], str(file), found[2], shown, uses(text) | uses(inner) | bound)
     for found in CONSTANT.finditer(text):
@@ -128,7 +137,7 @@ class Tree:
             if item in order:
                 return
             order.append(item)
-            for word in WORD.findall("\n".join([item.name, *item.read()])):  # the name of a method has its receiver's type
+            for word in [*WORD.findall(item.name), *item.words()]:  # the name of a method has its receiver's type
                 meaning = self.meaning(item, word)
                 if isinstance(meaning, str):
                     kit.add(meaning)
@@ -142,7 +151,7 @@ class Tree:
     def text(self, names):
         """The text of some promises, and how many lines it has to read."""
         order, kit = self.reached([root for name in names for root in self.promises[name]])
-        parts, total = [], sum(len(item.read()) for item in order)
+        parts, total = [], sum(len(item.lines()) for item in order)
         for before, item in zip([None, *order], order):
             parts += [item.text] if before and before.file == item.file else [f"==== {item.file}", item.text]
         parts += [f"==== Words of the standard library and of mathlib: {len(kit)}", ", ".join(sorted(kit))]
@@ -171,11 +180,18 @@ def contract(path, crate, wanted):
 
 
 def contracts_of(crate):
-    """The signature and the clauses of each public function of a crate, with the first line of its comment, by files."""
+    """The signature and the clauses of each public function of a crate, with the first paragraph of its comment and the type of a
+    method, by files."""
     folder = ROOT / "crates" / crate / "src"
     for file in sorted(folder.glob("**/*.rt")):
-        found = re.findall(r"(?ms)^( *)(/// [^\n]*)\n(?:\1(?:///|#\[)[^\n]*\n)*\1(pub fn .*?)(?=^\1\{| \{$)", file.read_text())
-        parts = [f"{comment}\n" + head.rstrip().replace(f"\n{indent}", "\n") for indent, comment, head in found]
+        text, parts = file.read_text(), []
+        for found in PUBLIC.finditer(text):
+            indent, comment, head = found.groups()
+            paragraph = re.split(r"(?m)^ *///\n", comment)[0]
+            heads = IMPL.findall(text[: found.start()])
+            path = [f"// {heads[-1]}::{head.split('(')[0].split('<')[0].split()[-1]}"] if indent else []
+            shown = [*path, textwrap.dedent(paragraph).rstrip(), head.rstrip().replace(f"\n{indent}", "\n")]
+            parts.append("\n".join(shown))
         if parts:
             yield "\n\n".join([f"==== {crate}/src/{file.relative_to(folder)}", *parts])
 

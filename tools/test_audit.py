@@ -29,7 +29,11 @@ class Audit(unittest.TestCase):
             text = TREE.text([name])[0]
             self.assertTrue(TREE.promises[name])
             self.assertEqual([part for part in parts if part not in text], [])
-            self.assertNotRegex(text, r"/proofs/|(?m:^\s*(?:let mut|return|ghost use|use Rattle)\b)")
+            self.assertNotRegex(text, r"/proofs/|(?m:^\s*(?:let mut|return|ghost use|ghost view|use Rattle|#\[)\b)")
+            told = int(re.search(r"==== (\d+) lines to read", text)[1])
+            body = text.split("==== Words of the standard library")[0]
+            printed = [line for line in body.splitlines() if line.strip() and not line.startswith("==== ")]
+            self.assertEqual(told, len(printed))
         self.assertNotIn("ensures refused", TREE.text(["search"])[0], "a clause that isn't asked for")
 
     def test_every_definition_is_read(self):
@@ -44,7 +48,7 @@ class Audit(unittest.TestCase):
 
     def test_every_word_of_this_repository_is_found(self):
         for item in TREE.reached(sum(TREE.promises.values(), []))[0]:
-            for word in audit.WORD.findall("\n".join(item.read())):
+            for word in item.words():
                 found = item.scope.get(word)
                 if isinstance(found, tuple) and found[0] in audit.CRATES:
                     self.assertIsNotNone(TREE.meaning(item, word), f"{word} of {item.name} in {item.file}")
@@ -53,7 +57,7 @@ class Audit(unittest.TestCase):
         printed = "\n".join(audit.contracts_of("gopher_item"))
         sources = "".join(path.read_text() for path in audit.ROOT.glob("crates/gopher_item/src/**/*.rt"))
         self.assertEqual(printed.count("pub fn "), len(re.findall(r"(?m)^ *pub fn ", sources)))
-        self.assertIn("ensures", printed)
+        self.assertIn("// Home::port\n/// Returns the port, at least 1.\npub fn port(&self) -> u16\n    ensures", printed)
 
 
 if __name__ == "__main__":
