@@ -10,9 +10,11 @@ ghost use Rattle.std.proofs.Common.{rules};
 ghost use Rattle.gopher_bytes.specs.Case.{lower_case};
 
 use crate::fault::NoMemory;
+use bstr::BStr;
 use std::alloc::{AllocError, Global};
 use std::cmp::Ordering;
 use std::convert::AsSlice;
+use std::fmt;
 use std::hash::{Hash, Hasher};
 use std::marker::Model;
 
@@ -106,6 +108,13 @@ impl From<Vec<u8>> for ByteString {
 
     fn from(held: Vec<u8>) -> ByteString {
         ByteString { held }
+    }
+}
+
+// Prints the bytes as text, as `"a\tb"`.
+impl fmt::Debug for ByteString {
+    fn fmt<W: fmt::Write>(&self, f: &mut fmt::Formatter<W>) -> fmt::Result {
+        fmt::Debug::fmt(&BStr::new(self.as_slice()), f)
     }
 }
 

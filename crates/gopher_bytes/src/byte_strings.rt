@@ -14,7 +14,7 @@ const LOW_ENDS: usize = 65_536;
 /// A list of byte strings that share one allocation.
 ///
 /// The end of a string takes two bytes. From the first end of 65,536 or more on, it takes four.
-#[derive(Drop)]
+#[derive(Debug, Drop)]
 pub struct ByteStrings {
     bytes: Vec<u8>,
     low: Vec<u16>,

@@ -1,10 +1,11 @@
--- The laws of comparisons of places. They are lemmas; an impl can cite only specs/.
+-- The laws of comparisons of places and menu lines. They are lemmas; an impl can cite only specs/.
 use Rattle.std.specs.Prelude.{◌≡◌}
 use Rattle.std.specs.Cmp.{IsEquivalence, IsTotalOrder, both_tied, unsigned_ties}
 use Rattle.std.specs.Cmp.Lexicographic.{texts_ties}
 use Rattle.std.specs.Cmp.Rules.{comparing}
 use Rattle.std.specs.Ordering.{eq_by_cmp}
 use Rattle.std.proofs.Common.{rules}
+use Rattle.gopher_item.specs.MenuLine.{same_line}
 use Rattle.gopher_item.specs.Place.{PlaceData, place_cmp, same_place}
 
 pub same_place_equiv : IsEquivalence same_place
@@ -19,3 +20,6 @@ same_place_ties a b =
     let host_port = both_tied _ _ _ _ (texts_ties a.host b.host) (unsigned_ties a.port b.port) in
     both_tied _ _ _ _ (both_tied _ _ _ _ host_port (texts_ties a.selector b.selector))
     (unsigned_ties a.kind b.kind)
+
+pub same_line_equiv : IsEquivalence same_line
+same_line_equiv = search (comparing, rules)

@@ -1,10 +1,11 @@
 -- One item of a menu (RFC 1436, section 2, and appendix: DirEntity).
-use Rattle.std.specs.Prelude.{◌≡◌, ℕ, ◌+◌, ◌^◌, ◌<◌, ◌≤◌, Bool, false, ◌||◌, not, List, ◌∷◌, ◌++◌, codes, length, drop, slice_range, Option, None, Some, is_some, Result, OnOk, ◌==◌, if◌then◌else◌}
+use Rattle.std.specs.Prelude.{◌≡◌, ℕ, ◌+◌, ◌^◌, ◌<◌, ◌≤◌, Bool, false, ◌||◌, ◌&&◌, not, nat_eq, List, ◌∷◌, ◌++◌, codes, length, drop, slice_range, Option, None, Some, is_some, Result, OnOk, ◌==◌, if◌then◌else◌}
 use Rattle.std.specs.List.{flat_map}
 use Rattle.std.specs.Arc.{arc_value}
 use Rattle.std.specs.Borrow.{Bor}
 use Rattle.std.specs.Fmt.{decimal}
 use Rattle.std.specs.Global.{Vec}
+use Rattle.std.specs.Cmp.Lexicographic.{pointwise}
 use Rattle.std.specs.declared.sync.Arc.{Arc}
 use Rattle.gopher_bytes.specs.Trim.{trim_spaces}
 use Rattle.gopher_item.specs.Fault.{Makes}
@@ -25,6 +26,13 @@ pub record MenuLineData : Type 0 where
 abbrev pub menu_line_of : ℕ → List ℕ → List ℕ → List ℕ → ℕ → MenuLineData
 menu_line_of kind display selector host port =
     record { kind = kind; display = display; selector = selector; host = host; port = port }
+
+-- two menu lines have the same parts
+abbrev pub same_line : MenuLineData → MenuLineData → Bool
+same_line a b =
+    (a.kind == b.kind) && pointwise nat_eq a.display b.display
+    && pointwise nat_eq a.selector b.selector && pointwise nat_eq a.host b.host
+    && (a.port == b.port)
 
 -- every menu line, read or made: no field contains a special byte, and the host has no space at its
 -- ends

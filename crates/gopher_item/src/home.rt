@@ -10,7 +10,7 @@ use std::alloc::Global;
 use std::marker::Model;
 
 /// The host and the port that a server writes into the menu lines of its own items.
-#[derive(Drop)]
+#[derive(Debug, Drop)]
 pub struct Home {
     host: ByteString,
     port: u16,

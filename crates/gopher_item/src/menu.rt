@@ -14,7 +14,7 @@ use std::sync::Arc;
 const BYTES_OF_A_LINE: usize = 64;
 
 /// A line of a menu that was read.
-#[derive(Drop)]
+#[derive(Debug, Drop, PartialEq, Eq)]
 pub enum Entry {
     /// A line with the form of an item.
     Item(MenuLine),
@@ -23,7 +23,7 @@ pub enum Entry {
 }
 
 /// A menu that was read.
-#[derive(Drop)]
+#[derive(Debug, Drop, PartialEq, Eq)]
 pub struct Menu {
     /// The items and the odd lines, in order.
     pub entries: Vec<Entry>,

@@ -1,15 +1,19 @@
 //! `MenuLine`: the type, display string, selector, host and port of an item.
 
 ghost use Rattle.std.specs.Prelude.{◌≡◌, IfOk, IfNone};
+ghost use Rattle.std.specs.Cmp;
+ghost use Rattle.gopher_item.specs.Laws.{same_line_equiv};
 ghost use Rattle.gopher_item.specs.Place.{MakesPlace};
-ghost use Rattle.gopher_item.specs.MenuLine.{FieldsStandAt, IsMenuLine, IsMenuLineWithAnyPort, MakesMenuLine, is_bad_type, menu_line_fault, menu_line_of};
+ghost use Rattle.gopher_item.specs.MenuLine.{FieldsStandAt, IsMenuLine, IsMenuLineWithAnyPort, MakesMenuLine, is_bad_type, menu_line_fault, menu_line_of, same_line};
 
 use crate::fault::ItemFault;
 use crate::fields::{has_special, is_control, is_host, is_selector};
 use crate::place::Place;
 use crate::writing::push_parts;
+use bstr::BStr;
 use gopher_bytes::{ByteString, NoMemory};
 use std::alloc::Global;
+use std::fmt;
 use std::marker::Model;
 use std::sync::Arc;
 
@@ -188,4 +192,34 @@ impl MenuLine {
         let (selector, host) = (self.selector(), self.host());
         Place::new(alloc, self.kind, selector, host, self.port)
     }
+}
+
+impl fmt::Debug for MenuLine {
+    fn fmt<W: fmt::Write>(&self, f: &mut fmt::Formatter<W>) -> fmt::Result {
+        f.debug_struct("MenuLine")
+            .field("kind", &self.kind())
+            .field("display", &BStr::new(self.display()))
+            .field("selector", &BStr::new(self.selector()))
+            .field("host", &BStr::new(self.host()))
+            .field("port", &self.port())
+            .finish()
+    }
+}
+
+impl PartialEq for MenuLine {
+    ghost eq = { same_line };
+
+    ghost laws = { Cmp.partial_equiv_from_equiv same_line_equiv };
+
+    fn eq(&self, other: &MenuLine) -> bool {
+        self.kind() == other.kind()
+            && self.display() == other.display()
+            && self.selector() == other.selector()
+            && self.host() == other.host()
+            && self.port() == other.port()
+    }
+}
+
+impl Eq for MenuLine {
+    ghost laws = { same_line_equiv };
 }

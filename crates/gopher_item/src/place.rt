@@ -16,7 +16,7 @@ use std::marker::Model;
 /// One file or directory of one server: the unit of crawls and of search results.
 ///
 /// Place order is by host (its bytes), port (as a number), selector (its bytes) and type.
-#[derive(Drop, Eq, Hash)]
+#[derive(Debug, Drop, Eq, Hash)]
 pub struct Place {
     pub(crate) host: ByteString,
     pub(crate) port: u16,

@@ -10,7 +10,7 @@ use std::alloc::Global;
 use std::marker::Model;
 
 // What a place has beside its selector; its host by its index among the hosts.
-#[derive(Clone, Copy)]
+#[derive(Clone, Copy, Debug)]
 pub(crate) struct Row {
     pub(crate) host: u32,
     pub(crate) port: u16,
@@ -20,7 +20,7 @@ pub(crate) struct Row {
 /// A packed list of places.
 ///
 /// The selectors share one allocation. Places of one host that follow each other share its bytes.
-#[derive(Drop)]
+#[derive(Debug, Drop)]
 pub struct Places {
     hosts: ByteStrings,
     selectors: ByteStrings,
@@ -139,7 +139,7 @@ impl Places {
 }
 
 /// A place in a packed list, which lends its host and its selector.
-#[derive(Drop)]
+#[derive(Debug, Drop)]
 pub struct PlaceParts<'a> {
     pub(crate) host: &'a [u8],
     pub(crate) port: u16,
@@ -199,7 +199,7 @@ impl<'a> PlaceParts<'a> {
 }
 
 /// An iterator over the places of a packed list, in order. It allocates nothing.
-#[derive(Drop)]
+#[derive(Debug, Drop)]
 pub struct EachPlace<'a> {
     // `None`: no list, so no places.
     places: Option<&'a Places>,

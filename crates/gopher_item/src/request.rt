@@ -10,7 +10,7 @@ use std::alloc::Global;
 use thiserror::Error;
 
 /// A request of a client (RFC 1436, sections 2 and 3.7).
-#[derive(Drop)]
+#[derive(Debug, Drop, PartialEq, Eq)]
 pub struct Request {
     /// The selector; empty for the top menu.
     pub selector: ByteString,

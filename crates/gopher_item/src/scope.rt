@@ -9,7 +9,7 @@ use crate::rule::Rule;
 use std::marker::Model;
 
 /// The places that a crawl may visit: those that an allow rule covers and no deny rule covers.
-#[derive(Drop)]
+#[derive(Debug, Drop)]
 pub struct Scope {
     allow: Vec<Rule>,
     deny: Vec<Rule>,
