@@ -12,7 +12,7 @@ use std::alloc::Global;
 const BYTES_OF_A_LINE: usize = 32;
 
 /// A text that was read.
-#[derive(Drop)]
+#[derive(Debug, Drop)]
 pub struct Text {
     /// The lines in order, without their ends and without the period that the sender put in front.
     pub lines: ByteStrings,

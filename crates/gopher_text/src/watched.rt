@@ -12,7 +12,7 @@ use std::marker::Model;
 ///
 /// A call failed if it returned an error, including an interruption, or if it was a write that took
 /// none of one or more bytes. The count stops at `u64::MAX`.
-#[derive(Drop)]
+#[derive(Debug, Drop)]
 pub struct Watched<D> {
     device: D,
     failures: u64,

@@ -16,7 +16,7 @@ use gopher_item::{
 const TAB: u8 = b'\t';
 
 /// A line of a menu file.
-#[derive(Clone, Copy)]
+#[derive(Clone, Copy, Debug)]
 pub struct WrittenLine<'a> {
     /// The type of the item (RFC 1436, section 3.8); `i` for a text alone.
     pub kind: u8,

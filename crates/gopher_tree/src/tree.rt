@@ -35,7 +35,7 @@ pub const MAX_NODES: usize = 4_096;
 /// Files and the folders that their paths lead through, as a server sends them.
 ///
 /// Contracts see a tree as the list of its files, each a path and its bytes.
-#[derive(Drop)]
+#[derive(Debug, Drop)]
 pub struct Tree {
     files: Vec<File>,
     nodes: Nodes,
@@ -54,7 +54,7 @@ impl Model for Tree {
 }
 
 /// The node that a selector names.
-#[derive(Clone, Copy)]
+#[derive(Clone, Copy, Debug)]
 pub enum Node<'a> {
     /// A file: its type (RFC 1436, section 3.8) and its bytes.
     File(u8, &'a [u8]),

@@ -23,7 +23,7 @@ use std::{fs, io};
 const MAX_READ: u64 = MAX_FILE as u64 + 1;
 
 // The target of an entry of a folder.
-#[derive(Clone, Copy)]
+#[derive(Clone, Copy, Debug)]
 pub(crate) enum Target {
     File,
     Folder,

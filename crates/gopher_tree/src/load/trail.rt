@@ -13,7 +13,7 @@ use std::alloc::Global;
 const MAX_BELOW: usize = MAX_NODES - 1;
 
 /// What a walk through a folder of the file system has met, beside the files that it listed.
-#[derive(Drop)]
+#[derive(Debug, Drop)]
 pub struct Trail {
     /// The path of the file or folder that the walk reached last, from the root and without a
     /// leading slash; empty for the root itself.

@@ -7,7 +7,7 @@ use crate::tree::kind::kind_of;
 use std::marker::Model;
 
 // A file: its path, its bytes, and its type, which is computed once.
-#[derive(Drop)]
+#[derive(Debug, Drop)]
 pub(crate) struct File {
     path: Vec<u8>,
     kind: u8,
