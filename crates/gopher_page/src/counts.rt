@@ -23,7 +23,7 @@ use std::marker::Model;
 /// The distinct words of a page in byte order, each with its number of occurrences.
 ///
 /// The words' bytes share one allocation, because a catalogue keeps every page.
-#[derive(Drop)]
+#[derive(Debug, Drop)]
 pub struct Counts {
     words: ByteStrings,
     counts: Repeats,
@@ -175,7 +175,7 @@ impl Counts {
 
 /// An iterator over the distinct words of a page in byte order, each with its number of
 /// occurrences. It allocates nothing.
-#[derive(Drop)]
+#[derive(Debug, Drop)]
 pub struct EachCount<'a> {
     counts: &'a Counts,
     next: usize,
@@ -208,6 +208,18 @@ impl<'a> Iterator for EachCount<'a> {
     fn size_hint(&self) -> (usize, Option<usize>) {
         let len = self.len();
         (len, Some(len))
+    }
+}
+
+impl<'a> IntoIterator for &'a Counts {
+    type Item = (&'a [u8], u32);
+
+    type IntoIter = EachCount<'a>;
+
+    ghost into_iter_gives = { λ counts each. each ≡ counts.now };
+
+    fn into_iter(self) -> EachCount<'a> {
+        self.iter()
     }
 }
 

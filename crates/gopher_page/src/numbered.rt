@@ -78,7 +78,7 @@ fn cmp_tied(word: &[u8], other: &[u8]) -> Ordering
 /// A word with its first eight bytes as one number.
 ///
 /// If two words have different numbers, their numbers order them as their bytes do.
-#[derive(Drop)]
+#[derive(Debug, Drop)]
 pub struct Numbered<'a> {
     number: u64,
     word: &'a [u8],

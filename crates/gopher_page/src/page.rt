@@ -19,7 +19,7 @@ use std::alloc::Global;
 use std::marker::Model;
 use std::sync::Arc;
 
-#[derive(Drop)]
+#[derive(Debug, Drop)]
 struct Parts {
     place: Arc<Place>,
     title: ByteString,
@@ -45,6 +45,7 @@ impl Model for Parts {
 ///
 /// Copies share the parts, so a copy takes no bytes of its own. The links are packed; a frontier
 /// copies those that become known places.
+#[derive(Debug)]
 pub struct Page {
     parts: Arc<Parts>,
 }

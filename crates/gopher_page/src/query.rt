@@ -12,7 +12,7 @@ use std::alloc::{AllocError, Global};
 use std::marker::Model;
 
 /// How a term is joined to the terms before it.
-#[derive(Clone, Copy)]
+#[derive(Clone, Copy, Debug, PartialEq, Eq)]
 pub enum Operator {
     /// Both match.
     And,
@@ -44,7 +44,7 @@ impl Operator {
 }
 
 /// One term of a query.
-#[derive(Drop)]
+#[derive(Debug, Drop)]
 pub struct Term {
     operator: Operator,
     word: ByteString,
@@ -169,7 +169,7 @@ fn is_wanted(term: &Term) -> bool
 }
 
 /// The query of a search: words and prefixes, joined by `and`, `or` and `not` from left to right.
-#[derive(Drop)]
+#[derive(Debug, Drop)]
 pub struct Query {
     terms: Vec<Term>,
 }

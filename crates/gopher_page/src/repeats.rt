@@ -13,7 +13,7 @@ use std::marker::Model;
 /// Counts of at most 1,048,576 (`MAX_REPLY`), with one byte for each.
 ///
 /// Each count up to the last one of 256 or more takes two bytes more.
-#[derive(Drop)]
+#[derive(Debug, Drop)]
 pub struct Repeats {
     low: Vec<u8>,
     high: Vec<u16>,
