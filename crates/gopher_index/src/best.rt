@@ -23,7 +23,7 @@ pub(crate) struct Ranked<'a> {
 }
 
 /// A candidate that shares its page, so that it can outlive the list that the page comes from.
-#[derive(Drop)]
+#[derive(Debug, Drop)]
 pub(crate) struct Kept {
     score: u64,
     page: Arc<Page>,

@@ -46,7 +46,7 @@ fn segment_of(alloc: Global, first: usize, parts: &[Part]) -> Result<Segment, No
 /// Consecutive pages of an index that are due to be merged into one segment.
 ///
 /// It shares the pages, so they can be merged without access to the index.
-#[derive(Drop)]
+#[derive(Debug, Drop)]
 pub struct Due {
     pub(crate) first: usize,
     pub(crate) parts: Vec<Part>,

@@ -3,7 +3,7 @@
 use gopher_item::{ByteString, Place};
 
 /// A page that a search found.
-#[derive(Drop)]
+#[derive(Debug, Drop)]
 pub struct Hit {
     /// The place that the page was fetched from.
     pub place: Place,

@@ -70,6 +70,7 @@ fn loose_len(parts: &[Part]) -> usize {
 }
 
 /// A list of pages that can be searched.
+#[derive(Debug)]
 pub struct Index {
     parts: Vec<Part>,
     // The number of pages.

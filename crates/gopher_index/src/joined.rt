@@ -15,7 +15,7 @@ use std::alloc::Global;
 /// The verdicts and scores of a part's pages by the first groups of a query's terms.
 ///
 /// Its memory is used for one part after another.
-#[derive(Drop)]
+#[derive(Debug, Drop)]
 pub(crate) struct Joined {
     counts: Vec<u32>,
     pub verdicts: Vec<u16>,

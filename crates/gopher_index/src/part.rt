@@ -17,7 +17,7 @@ use std::slice::from_ref;
 use std::sync::Arc;
 
 /// The pages of a part.
-#[derive(Drop)]
+#[derive(Debug, Drop)]
 pub(crate) enum Held {
     Page(Arc<Page>),
     Segment(Arc<Segment>),
@@ -25,7 +25,7 @@ pub(crate) enum Held {
 
 /// Consecutive pages of an index: a page that was found, which has no table but its own counts, or
 /// a segment.
-#[derive(Drop)]
+#[derive(Debug, Drop)]
 pub(crate) struct Part {
     first: usize,
     held: Held,

@@ -51,7 +51,7 @@ pub(crate) fn verdict_for(holds: u16, fails: u16, count: u32) -> u16
 }
 
 /// Equal terms: those of the same word, or of the same prefix.
-#[derive(Drop)]
+#[derive(Debug, Drop)]
 pub(crate) struct Group {
     /// One of the terms.
     pub term: Term,

@@ -22,6 +22,7 @@ use std::marker::Model;
 ///
 /// It shares the pages that the index had at `Index::begin`. If the index changes meanwhile, the
 /// hits stay those of these pages.
+#[derive(Debug)]
 pub struct Search {
     alloc: Global,
     parts: Vec<Part>,
@@ -154,7 +155,7 @@ impl Search {
 }
 
 /// A search that has ended or is under way, as `Index::begin` returns it.
-#[derive(Drop)]
+#[derive(Debug, Drop)]
 pub enum Begun {
     /// The hits of a short search.
     Found(Vec<Hit>),

@@ -3,7 +3,7 @@
 /// The posting list of a word: the numbers of the pages that contain it, with its counts.
 ///
 /// A posting counts at most 255. A page with a higher count has several postings in sequence.
-#[derive(Drop)]
+#[derive(Debug, Drop)]
 pub struct Postings<'a> {
     /// The number of the segment's first page.
     pub first: usize,

@@ -65,7 +65,7 @@ impl<'a> Run<'a> {
 }
 
 /// A packed list of runs of postings. The last run may not be ended yet.
-#[derive(Drop)]
+#[derive(Debug, Drop)]
 pub(crate) struct Runs {
     pages: Vec<u16>,
     counts: Vec<u8>,

@@ -29,6 +29,7 @@ use std::sync::Arc;
 ///
 /// The table leaves out large pages (`Page::is_large`), because a copy of their words would take
 /// much memory: their words are found in the pages.
+#[derive(Debug)]
 pub struct Segment {
     first: usize,
     pages: Vec<Arc<Page>>,

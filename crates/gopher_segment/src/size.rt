@@ -15,7 +15,7 @@ const MAX_POSTINGS: usize = 8_388_608;
 
 /// The size of a segment: its pages, the bytes of the words in its table, and its postings. The
 /// words of its large pages count as postings.
-#[derive(Clone, Copy, Default)]
+#[derive(Clone, Copy, Debug, Default)]
 pub struct Size {
     /// The number of pages.
     pub pages: usize,

@@ -26,7 +26,7 @@ fn numbers_of(alloc: Global, words: &ByteStrings) -> Result<Vec<u64>, NoMemory> 
 ///
 /// `numbers` has the leading number of each 64th word, eight bytes for 64 words. A search guesses a
 /// range of rows from them, so it is right whatever the numbers are.
-#[derive(Drop)]
+#[derive(Debug, Drop)]
 pub(crate) struct Table {
     words: ByteStrings,
     runs: Runs,
