@@ -4,7 +4,7 @@ use gopher_item::Place;
 use std::sync::Arc;
 
 /// A claimed place, ready to be fetched.
-#[derive(Drop)]
+#[derive(Debug, Drop)]
 pub struct Claim {
     /// The number of the place, which `found` and `fail` expect.
     pub number: u32,
@@ -13,7 +13,7 @@ pub struct Claim {
 }
 
 /// The result of a claim.
-#[derive(Drop)]
+#[derive(Debug, Drop)]
 pub enum Turn {
     /// The first waiting place, which is now out.
     Take(Claim),

@@ -21,7 +21,7 @@ use std::sync::Arc;
 const MAX_PAGES: usize = MAX_PLACES as usize;
 
 /// A record of events, with an index of the first 65,536 pages that they found.
-#[derive(Drop)]
+#[derive(Debug, Drop)]
 pub(crate) struct Archive {
     events: Vec<Event>,
     index: Index,

@@ -17,7 +17,7 @@ use std::marker::Model;
 ///
 /// Contracts see a book as the list of its events. The book doesn't check that its record is legal,
 /// and its contracts promise search results only for a legal record.
-#[derive(Drop)]
+#[derive(Debug, Drop)]
 pub struct Book {
     alloc: Global,
     archive: Archive,

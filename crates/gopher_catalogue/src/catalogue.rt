@@ -30,6 +30,7 @@ use std::sync::Arc;
 ///
 /// Contracts see a catalogue as its record, which is always legal. The frontier and the index
 /// beside the record let a step or a search run without reading the record again.
+#[derive(Debug)]
 pub struct Catalogue {
     alloc: Global,
     archive: Archive,

@@ -40,7 +40,7 @@ impl Why {
 }
 
 /// An event of a crawl. A number identifies a place: its index, from 0, among the known places.
-#[derive(Drop)]
+#[derive(Debug, Drop)]
 pub enum Event {
     /// The crawl began. This is the first event of a record and occurs nowhere else.
     Opened(Arc<Opening>),
@@ -70,7 +70,7 @@ impl Event {
 ///
 /// Contracts, also those between threads, see a record as a list of these. No code makes a value of
 /// this type.
-#[derive(Drop)]
+#[derive(Debug, Drop)]
 pub enum EventData {
     /// The crawl began.
     Opened(Opening),

@@ -39,7 +39,8 @@ impl OpenFault {
 }
 
 /// The error of `Catalogue::open`, with the arguments that it took.
-#[derive(Drop)]
+#[derive(Debug, Drop, Error)]
+#[error("{fault}")]
 pub struct OpenRefused {
     /// Why the call failed.
     pub fault: OpenFault,
@@ -77,7 +78,8 @@ impl FoundFault {
 }
 
 /// The error of `Catalogue::found`, with the page that it took.
-#[derive(Drop)]
+#[derive(Debug, Drop, Error)]
+#[error("{fault}")]
 pub struct FoundRefused {
     /// Why the call failed.
     pub fault: FoundFault,

@@ -20,7 +20,7 @@ use std::alloc::Global;
 /// updates. A number identifies a place: its index, from 0, among the known places.
 ///
 /// Contracts don't relate these tables to each other: the caller keeps them consistent.
-#[derive(Drop)]
+#[derive(Debug, Drop)]
 pub(crate) struct Frontier {
     /// The known places, each at the index that is its number.
     pub known: KnownPlaces,

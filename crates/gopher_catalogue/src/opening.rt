@@ -7,6 +7,7 @@ use gopher_item::{Place, Scope};
 use std::marker::Model;
 
 /// The arguments with which a crawl begins: its scope, its seeds and its limits.
+#[derive(Debug)]
 pub struct Opening {
     scope: Scope,
     seeds: Vec<Place>,

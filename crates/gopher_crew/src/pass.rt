@@ -24,7 +24,7 @@ use std::alloc::Global;
 use std::marker::Model;
 
 /// What a search finds.
-#[derive(Drop)]
+#[derive(Debug, Drop)]
 pub struct Answer {
     /// The first 50 of the pages that match, by descending score, then in place order.
     pub hits: Vec<Hit>,

@@ -64,17 +64,22 @@ impl From<NoMemory> for SettingsFault {
 }
 
 /// A fault of a site.
-#[derive(Clone, Copy)]
+#[derive(Clone, Copy, Debug, PartialEq, Eq, Error)]
 pub enum SiteFault {
     /// 30 to 34, or 90: the settings are invalid.
+    #[error("{0}")]
     Settings(SettingsFault),
     /// 20 to 26, or 90: the folder doesn't make a tree. For 23 and 26 it contains the reason.
+    #[error("{0}")]
     Tree(TreeFault, Obstacle),
     /// 50: the scope doesn't allow the seed at this index.
+    #[error("seed {0} is out of scope")]
     SeedOutOfScope(usize),
     /// 80: the settings file can't be read, has over 1,048,576 bytes, or isn't UTF-8.
+    #[error("the settings can't be read")]
     SettingsUnreadable,
     /// 30: a line of the settings repeats an earlier key or table.
+    #[error("a line repeats an earlier key or table")]
     KeyTwice,
 }
 

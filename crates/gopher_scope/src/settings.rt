@@ -23,7 +23,7 @@ use toml::Table;
 pub(crate) use unknown::{UnknownKey, unknown_keys};
 
 /// The settings of a server and its crawl.
-#[derive(Drop)]
+#[derive(Debug, Drop)]
 pub struct Settings {
     /// The server's own host and port.
     pub home: Home,

@@ -14,7 +14,7 @@ use std::alloc::Global;
 use std::io::{self, ErrorKind, Read, Write};
 
 /// The state of a conversation after a step.
-#[derive(Clone, Copy, PartialEq, Eq)]
+#[derive(Clone, Copy, Debug, PartialEq, Eq)]
 pub enum Progress {
     /// The whole reply was written.
     Done,

@@ -33,7 +33,7 @@ pub trait Answers<'a> {
 }
 
 /// What a line is answered with: a reply, or a search that makes one by steps.
-#[derive(Drop)]
+#[derive(Debug, Drop)]
 pub enum Answer<'a> {
     /// A reply: bytes of a tree, or of its kept replies.
     Kept(&'a [u8]),

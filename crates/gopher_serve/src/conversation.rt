@@ -22,7 +22,7 @@ use std::marker::Model;
 const MAX_WITH_END: usize = MAX_LINE + 2;
 
 /// The state of a conversation.
-#[derive(Drop)]
+#[derive(Debug, Drop)]
 pub(crate) enum Phase<'a> {
     /// The line isn't at its end: more is read.
     Gathering,
@@ -40,7 +40,7 @@ pub(crate) enum Phase<'a> {
 /// holds the reply or the search that makes it, and counts the bytes that were sent.
 ///
 /// Whatever the sizes of the pieces, what goes out is a prefix of the reply to the first line.
-#[derive(Drop)]
+#[derive(Debug, Drop)]
 pub struct Conversation<'a> {
     gathered: Vec<u8>,
     pub(crate) phase: Phase<'a>,

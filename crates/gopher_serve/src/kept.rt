@@ -8,7 +8,7 @@ use gopher_item::{ByteString, Home, NoMemory};
 use gopher_tree::{Node, Tree};
 use std::alloc::Global;
 
-#[derive(Drop)]
+#[derive(Debug, Drop)]
 pub(crate) struct KeptReply {
     selector: ByteString,
     bytes: ByteString,

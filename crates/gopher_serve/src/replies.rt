@@ -9,6 +9,7 @@ use gopher_item::{ByteString, Home, NoMemory};
 use gopher_tree::{Node, Tree, not_found};
 use std::alloc::Global;
 use std::marker::Model;
+use thiserror::Error;
 
 /// A tree and the replies of one server for it, most of which are made once instead of on each
 /// request.
@@ -21,7 +22,7 @@ use std::marker::Model;
 /// most the host's length and 11 bytes.
 ///
 /// Contracts see it as the list of the tree's files, and the server's address.
-#[derive(Drop)]
+#[derive(Debug, Drop)]
 pub struct Replies {
     tree: Tree,
     home: Home,
@@ -40,7 +41,8 @@ impl Model for Replies {
 }
 
 /// The error of `Replies::new`, with the arguments that it took.
-#[derive(Drop)]
+#[derive(Debug, Drop, Error)]
+#[error("{fault}")]
 pub struct RepliesRefused {
     /// Why the call failed.
     pub fault: NoMemory,

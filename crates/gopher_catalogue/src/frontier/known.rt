@@ -14,7 +14,7 @@ use std::marker::Model;
 use std::sync::Arc;
 
 /// The state of a known place.
-#[derive(Clone, Copy)]
+#[derive(Clone, Copy, Debug)]
 pub(crate) struct Standing {
     /// How often the place was claimed.
     pub claims: u32,
@@ -31,7 +31,7 @@ impl Standing {
 }
 
 /// The known places in the order of first mention. The index of a place is its number.
-#[derive(Drop)]
+#[derive(Debug, Drop)]
 pub(crate) struct KnownPlaces {
     standings: IndexMap<Arc<Place>, Standing>,
     // The keys of `standings` again, because callers get them as one slice.

@@ -9,7 +9,7 @@ use std::marker::Model;
 
 /// A queue of numbers. Taken numbers stay in the list: only the index of the first waiting one
 /// grows.
-#[derive(Drop)]
+#[derive(Debug, Drop)]
 pub(crate) struct Queue {
     entries: Vec<u32>,
     taken: usize,

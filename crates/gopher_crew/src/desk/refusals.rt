@@ -8,10 +8,13 @@ use crate::desk::blank::Blank;
 use crate::desk::share::Share;
 use crate::fault::DeskFault;
 use gopher_catalogue::Catalogue;
+use std::fmt;
 use std::sync::Wait;
+use thiserror::Error;
 
 /// The error of `Desk::open`, with the arguments that it was given.
-#[derive(Drop)]
+#[derive(Drop, Error)]
+#[error("{fault}")]
 pub struct DeskRefused {
     /// Why the desk wasn't opened.
     pub fault: DeskFault,
@@ -21,9 +24,18 @@ pub struct DeskRefused {
     pub blank: Blank,
 }
 
+impl fmt::Debug for DeskRefused {
+    fn fmt<W: fmt::Write>(&self, f: &mut fmt::Formatter<W>) -> fmt::Result {
+        f.debug_struct("DeskRefused")
+            .field("fault", &self.fault)
+            .finish_non_exhaustive()
+    }
+}
+
 /// The error of `Desk::close` (62): the shares don't count all events of the record after the
 /// first.
-#[derive(Drop)]
+#[derive(Drop, Error)]
+#[error("the shares don't count all events of the record")]
 pub struct CloseRefused<C: Crew, R: Wait + Drop> {
     /// The desk, still open.
     pub desk: Desk<C, R>,
@@ -39,5 +51,13 @@ impl<C: Crew, R: Wait + Drop> CloseRefused<C, R> {
         ensures { result ≡ 62 }
     {
         62
+    }
+}
+
+impl<C: Crew, R: Wait + Drop> fmt::Debug for CloseRefused<C, R> {
+    fn fmt<W: fmt::Write>(&self, f: &mut fmt::Formatter<W>) -> fmt::Result {
+        f.debug_struct("CloseRefused")
+            .field("events", &self.events)
+            .finish_non_exhaustive()
     }
 }

@@ -19,7 +19,7 @@ use std::sync::Arc;
 const MAX_PAGES: usize = 65_536;
 
 /// What changes of a version's pages.
-#[derive(Drop)]
+#[derive(Debug, Drop)]
 pub enum Change {
     /// Nothing.
     Nothing,

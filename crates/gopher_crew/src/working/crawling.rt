@@ -10,11 +10,14 @@ use crate::desk::share::Share;
 use crate::working::fetch::Fetch;
 use crate::working::{WorkEnd, run};
 use std::alloc::Global;
+use std::fmt;
 use std::sync::Wait;
 use std::thread::{Threads, for_each_mut};
+use thiserror::Error;
 
 /// A crawl that wasn't started because memory ran out (90), with the arguments it was given.
-#[derive(Drop)]
+#[derive(Drop, Error)]
+#[error("out of memory")]
 pub struct CrawlRefused<F: Drop, C: Crew> {
     /// The fetchers and shares.
     pub pairs: Vec<(F, Share<C>)>,
@@ -26,6 +29,12 @@ impl<F: Drop, C: Crew> CrawlRefused<F, C> {
         ensures { result ≡ 90 }
     {
         90
+    }
+}
+
+impl<F: Drop, C: Crew> fmt::Debug for CrawlRefused<F, C> {
+    fn fmt<W: fmt::Write>(&self, f: &mut fmt::Formatter<W>) -> fmt::Result {
+        f.debug_struct("CrawlRefused").finish_non_exhaustive()
     }
 }
 

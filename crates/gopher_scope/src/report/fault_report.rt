@@ -15,7 +15,7 @@ use std::alloc::Global;
 pub type Reported = Result<Report, NoMemory>;
 
 /// The report of a check.
-#[derive(Drop)]
+#[derive(Debug, Drop)]
 pub struct Report {
     /// The lines of the report.
     pub words: Vec<u8>,

@@ -17,7 +17,7 @@ use std::marker::Model;
 const SEARCH: &[u8] = b"/search";
 
 /// The server's address, the root as the settings spell it, and the tree of its files.
-#[derive(Drop)]
+#[derive(Debug, Drop)]
 pub struct Site<'a> {
     pub home: &'a Home,
     pub root: &'a str,

@@ -12,7 +12,7 @@ use std::path::Path;
 use std::str;
 
 /// Why a file or folder can't be read, or is too much.
-#[derive(Clone, Copy)]
+#[derive(Clone, Copy, Debug, PartialEq, Eq)]
 pub enum Obstacle {
     /// A name in the folder isn't UTF-8.
     NotUtf8,

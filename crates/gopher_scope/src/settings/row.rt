@@ -16,7 +16,7 @@ use std::marker::Model;
 use toml::{Table, Value};
 
 /// The fault of a value, or of a key without one.
-#[derive(Clone, Copy)]
+#[derive(Clone, Copy, Debug)]
 pub(crate) enum Problem {
     /// The key is required and missing.
     Missing,
@@ -40,7 +40,7 @@ impl Problem {
 }
 
 /// The kinds of texts in settings.
-#[derive(Clone, Copy)]
+#[derive(Clone, Copy, Debug)]
 pub(crate) enum TextKind {
     /// A host: 1 to 255 bytes without spaces and control bytes; required.
     Host,
@@ -111,7 +111,7 @@ fn number_read(most: u32, value: &Value) -> u32
 }
 
 /// The valid values of a key.
-#[derive(Clone, Copy)]
+#[derive(Clone, Copy, Debug)]
 pub(crate) enum Form {
     /// An integer from 1 to the second number; the first number if the key is missing.
     Integer(u32, u32),
@@ -122,7 +122,7 @@ pub(crate) enum Form {
 }
 
 /// A key's name, and its valid values.
-#[derive(Drop)]
+#[derive(Debug, Drop)]
 pub(crate) struct Row {
     /// The name of the key in the text.
     pub(crate) name: &'static str,

@@ -13,7 +13,7 @@ use toml::{Table, Value};
 const MAX_TABLES: usize = 256;
 
 /// A key of a table in an array.
-#[derive(Clone, Copy)]
+#[derive(Clone, Copy, Debug)]
 pub(crate) enum Field {
     /// `type`: the type of a place.
     Kind,
@@ -44,7 +44,7 @@ impl Field {
 }
 
 /// The kind of the tables in an array.
-#[derive(Clone, Copy)]
+#[derive(Clone, Copy, Debug)]
 pub(crate) enum Element {
     /// Tables of places.
     Seed,

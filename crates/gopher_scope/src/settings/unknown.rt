@@ -15,7 +15,7 @@ use std::marker::Model;
 use toml::{Table, Value};
 
 /// An unknown key of settings.
-#[derive(Drop)]
+#[derive(Debug, Drop)]
 pub(crate) struct UnknownKey<'a> {
     /// The key of the array with the table that has it; `None` for one of the settings' own.
     pub(crate) array: Option<Key>,
