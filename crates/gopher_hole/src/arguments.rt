@@ -13,7 +13,7 @@ const VERSION: &str = "0.2.0";
 const MAX_REQUESTS: i64 = 1_000_000;
 
 /// What the arguments ask for.
-#[derive(Drop)]
+#[derive(Debug, Drop)]
 pub enum Asked<'a> {
     /// `replay`: replay a script.
     Replay,
@@ -26,7 +26,7 @@ pub enum Asked<'a> {
 }
 
 /// The arguments of `check`.
-#[derive(Drop)]
+#[derive(Debug, Drop)]
 pub struct Checking<'a> {
     /// The path of the settings.
     pub settings: &'a str,
@@ -38,7 +38,7 @@ pub struct Checking<'a> {
 }
 
 /// A text that is printed and ends the program.
-#[derive(Drop)]
+#[derive(Debug, Drop)]
 pub enum Text {
     /// The text of `--help` or `--version`.
     Shown(String),
@@ -47,7 +47,7 @@ pub enum Text {
 }
 
 /// The arguments of `serve`.
-#[derive(Drop)]
+#[derive(Debug, Drop)]
 pub struct Serving<'a> {
     /// The path of the settings.
     pub settings: &'a str,

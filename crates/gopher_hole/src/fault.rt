@@ -9,32 +9,42 @@ use gopher_item::NoMemory;
 use gopher_scope::{Key, SettingsFault, SiteFault};
 use gopher_script::ReplayFault;
 use gopher_tree::TreeFault;
+use thiserror::Error;
 
 /// Why the program ended with status 1.
-#[derive(Clone, Copy)]
+#[derive(Clone, Copy, Debug, PartialEq, Eq, Error)]
 pub enum ProgramFault {
     /// 10 to 13, 70 or 90: the replay failed.
+    #[error("{0}")]
     Replay(ReplayFault),
     /// 13: a line couldn't be written or flushed.
+    #[error("a write failed")]
     WriteFailed,
     /// 20 to 26, 30 to 34, 80 or 90: the settings or their folder have a fault.
+    #[error("{0}")]
     Site(SiteFault),
     /// 50, 51, 54 or 90: the crawl can't begin.
+    #[error("{0}")]
     Open(OpenFault),
     /// 60, 61 or 90: the desk can't be opened.
+    #[error("{0}")]
     Desk(DeskFault),
     /// 62: the workers' shares don't count the events of the crawl.
+    #[error("the shares are not those of the desk")]
     StrangeShare,
     /// 81: no address could be bound, or a connection couldn't be accepted.
+    #[error("listening failed")]
     ListenFailed,
     /// 82: a server thread couldn't be started.
+    #[error("a server thread couldn't be started")]
     NoThread,
     /// 90: out of memory.
+    #[error("out of memory")]
     NoMemory,
 }
 
 /// A detail that the line of a fault names after its number.
-#[derive(Clone, Copy)]
+#[derive(Clone, Copy, Debug, PartialEq, Eq)]
 pub enum Detail {
     /// Nothing.
     Nothing,

@@ -13,7 +13,7 @@ use std::sync::Arc;
 use std::thread::{self, Promise, PromisedHandle, Threads};
 
 /// The promise of a thread that may end in any way.
-#[derive(Clone, Copy, Drop)]
+#[derive(Clone, Copy, Debug, Drop)]
 pub struct AnyEnd;
 
 impl Promise<ThreadEnd> for AnyEnd {
@@ -32,7 +32,7 @@ pub struct Started<P: Promise<ThreadEnd>> {
 }
 
 /// How server threads ended.
-#[derive(Clone, Copy)]
+#[derive(Clone, Copy, Debug, PartialEq, Eq)]
 pub struct ThreadsEnd {
     /// Whether a thread failed: a listener was broken, or the system refused to wait.
     pub failed: bool,

@@ -10,7 +10,7 @@ use std::alloc::Global;
 use std::marker::Model;
 
 /// A command of a script, one for each line.
-#[derive(Drop)]
+#[derive(Debug, Drop)]
 pub enum Command<'a> {
     /// Does nothing: an empty line or a comment.
     Nothing,
@@ -37,7 +37,7 @@ pub enum Command<'a> {
 }
 
 /// The parts of a rule, not checked yet.
-#[derive(Drop)]
+#[derive(Debug, Drop)]
 pub struct RuleParts<'a> {
     pub host: &'a [u8],
     pub port: u16,
@@ -62,7 +62,7 @@ impl<'a> RuleParts<'a> {
 }
 
 /// The parts of a place, not checked yet.
-#[derive(Drop)]
+#[derive(Debug, Drop)]
 pub struct PlaceParts<'a> {
     pub kind: u8,
     pub host: &'a [u8],
@@ -89,7 +89,7 @@ impl<'a> PlaceParts<'a> {
 }
 
 /// The text of a query: at most 1,024 bytes (`MAX_LINE`).
-#[derive(Drop)]
+#[derive(Debug, Drop)]
 pub struct QueryText<'a> {
     pub bytes: &'a [u8],
 }
@@ -116,7 +116,7 @@ impl<'a> QueryText<'a> {
 }
 
 /// The word of an `occurs` command.
-#[derive(Drop)]
+#[derive(Debug, Drop)]
 pub struct WordText<'a> {
     pub bytes: &'a [u8],
 }

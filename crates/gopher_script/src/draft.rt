@@ -11,7 +11,7 @@ use std::alloc::Global;
 use std::marker::Model;
 
 /// The rules and seeds that the script has added so far.
-#[derive(Drop)]
+#[derive(Debug, Drop)]
 pub struct Draft {
     pub allow: Vec<Rule>,
     pub deny: Vec<Rule>,

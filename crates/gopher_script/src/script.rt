@@ -12,7 +12,7 @@ use std::alloc::Global;
 use std::marker::Model;
 
 /// A line of a script outside blocks, with the reply of its own block.
-#[derive(Drop)]
+#[derive(Debug, Drop)]
 pub struct Statement<'a> {
     /// The number of the line, from 1.
     pub number: usize,
@@ -31,7 +31,7 @@ impl<'a> Model for Statement<'a> {
 }
 
 /// The statements of a script that haven't been read yet.
-#[derive(Drop)]
+#[derive(Debug, Drop)]
 pub struct Script<'a> {
     // The number of lines read.
     lines_read: usize,

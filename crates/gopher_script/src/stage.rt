@@ -12,7 +12,7 @@ use gopher_item::{NoMemory, Scope};
 use std::alloc::Global;
 
 /// The stage of a script.
-#[derive(Drop)]
+#[derive(Debug, Drop)]
 pub enum Stage {
     /// The crawl hasn't started: the script adds rules and seeds.
     Gathering(Draft),
@@ -21,7 +21,7 @@ pub enum Stage {
 }
 
 /// The result of a command.
-#[derive(Drop)]
+#[derive(Debug, Drop)]
 pub struct Performed {
     /// The stage after the command.
     pub stage: Stage,

@@ -30,7 +30,7 @@ const MAX_ACCEPTS: u32 = 64;
 const MAX_SINGLE: u32 = 4;
 
 /// How a server thread ended.
-#[derive(Clone, Copy)]
+#[derive(Clone, Copy, Debug, PartialEq, Eq)]
 pub enum ThreadEnd {
     /// All connections of the quota were accepted, and all of its connections have ended.
     Served,

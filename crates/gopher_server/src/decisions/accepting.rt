@@ -17,7 +17,7 @@ pub const WAKER: usize = usize::MAX - 1_025;
 const PAUSE: u64 = 100;
 
 /// Whether a server thread accepts connections, and if not, why.
-#[derive(Clone, Copy)]
+#[derive(Clone, Copy, Debug)]
 pub enum Accepting {
     /// It accepts what waits.
     Watches,
@@ -30,7 +30,7 @@ pub enum Accepting {
 }
 
 /// What changes whether a server thread accepts connections.
-#[derive(Clone, Copy)]
+#[derive(Clone, Copy, Debug)]
 pub enum AcceptEvent {
     /// Descriptors or memory are short.
     IsShort,
@@ -41,7 +41,7 @@ pub enum AcceptEvent {
 }
 
 /// What a server thread has to do at such a change.
-#[derive(Clone, Copy)]
+#[derive(Clone, Copy, Debug)]
 pub enum AcceptDuty {
     /// Nothing.
     Nothing,
@@ -67,7 +67,7 @@ pub fn listeners_at(token: usize, listeners: usize) -> Option<Range<usize>>
 }
 
 /// What the error of a failed accept means.
-#[derive(Clone, Copy)]
+#[derive(Clone, Copy, Debug)]
 pub enum AcceptFailure {
     /// The connection is lost; the next may be accepted.
     IsLost,

@@ -15,7 +15,7 @@ const MAX_BYTES: usize = 65_536;
 
 /// Lines of requests, and the number of requests that were dropped since the last of them. A line
 /// is added only while there are fewer than 65,536 bytes (`MAX_BYTES`).
-#[derive(Drop)]
+#[derive(Debug, Drop)]
 pub struct Batch {
     written: Vec<u8>,
     line: Vec<u8>,

@@ -12,7 +12,7 @@ use std::alloc::AllocError;
 use std::marker::Model;
 
 /// What a line of the log says of a request.
-#[derive(Drop)]
+#[derive(Debug, Drop)]
 pub struct RequestLine<'a> {
     /// When it ended.
     pub ended: DateTime,
