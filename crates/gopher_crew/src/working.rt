@@ -21,6 +21,7 @@ use gopher_catalogue::{Claim, Turn, Why};
 use gopher_page::Page;
 use gopher_text::MAX_REPLY;
 use std::alloc::Global;
+use std::fmt;
 use std::sync::Wait;
 
 /// Why a worker stopped.
@@ -45,6 +46,17 @@ pub struct WorkEnd<F: Drop, C: Crew> {
     pub failed: u32,
     /// Why it stopped.
     pub stop: Stop,
+}
+
+impl<F: Drop, C: Crew> fmt::Debug for WorkEnd<F, C> {
+    fn fmt<W: fmt::Write>(&self, f: &mut fmt::Formatter<W>) -> fmt::Result {
+        f.debug_struct("WorkEnd")
+            .field("share", &self.share)
+            .field("found", &self.found)
+            .field("failed", &self.failed)
+            .field("stop", &self.stop)
+            .finish_non_exhaustive()
+    }
 }
 
 // What became of a place that was claimed. `Refused`: the desk refused its page and its failure,

@@ -18,7 +18,7 @@ use std::str;
 use std::sync::Wait;
 
 /// Fetches the replies of places, each over a connection of its own to the place's host and port.
-#[derive(Drop)]
+#[derive(Debug, Drop)]
 pub struct TcpFetch {
     pub(crate) calls: u64,
 }

@@ -6,6 +6,7 @@ ghost use Rattle.gopher_crew.specs.Crew.{Rises};
 
 use crate::crew::Crew;
 use crate::publication::record_prefix::RecordPrefix;
+use std::fmt;
 use std::marker::Model;
 use std::sync::Wait;
 use std::sync::ledger::{Book, Share as Part};
@@ -34,6 +35,14 @@ impl<C: Crew> Model for Share<C> {
 
     ghost invariant = { λ s. ((s.count ≡ s.part.amount) × (0 < s.part.parts))
         × (s.seen.history ≡ C.history) };
+}
+
+impl<C: Crew> fmt::Debug for Share<C> {
+    fn fmt<W: fmt::Write>(&self, f: &mut fmt::Formatter<W>) -> fmt::Result {
+        f.debug_struct("Share")
+            .field("count", &self.count)
+            .finish_non_exhaustive()
+    }
 }
 
 impl<C: Crew> Share<C> {

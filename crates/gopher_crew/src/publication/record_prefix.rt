@@ -8,6 +8,7 @@ ghost use Rattle.gopher_crew.specs.History.{AddsEventTo};
 use crate::publication::history::{Head, Law, exchange};
 use gopher_catalogue::{Event, EventData};
 use logbook::Seen;
+use std::fmt;
 use std::marker::Model;
 use std::sync::Wait;
 
@@ -28,6 +29,14 @@ impl Model for RecordPrefix {
     ghost view = { λ p. record { history = p.seen.book; events = p.seen.log } };
 
     ghost invariant = { λ p. p.len ≡ length p.seen.log };
+}
+
+impl fmt::Debug for RecordPrefix {
+    fn fmt<W: fmt::Write>(&self, f: &mut fmt::Formatter<W>) -> fmt::Result {
+        f.debug_struct("RecordPrefix")
+            .field("len", &self.len)
+            .finish_non_exhaustive()
+    }
 }
 
 impl RecordPrefix {

@@ -34,7 +34,10 @@ impl<F: Drop, C: Crew> CrawlRefused<F, C> {
 
 impl<F: Drop, C: Crew> fmt::Debug for CrawlRefused<F, C> {
     fn fmt<W: fmt::Write>(&self, f: &mut fmt::Formatter<W>) -> fmt::Result {
-        f.debug_struct("CrawlRefused").finish_non_exhaustive()
+        let pairs = self.pairs.len();
+        f.debug_struct("CrawlRefused")
+            .field("pairs", &pairs)
+            .finish()
     }
 }
 

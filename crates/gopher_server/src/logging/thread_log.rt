@@ -24,7 +24,7 @@ const MAX_TRIES: u32 = 20;
 const REST: u64 = 50;
 
 /// How a connection was accepted.
-#[derive(Clone, Copy)]
+#[derive(Clone, Copy, Debug)]
 pub struct Accepted {
     peer: IpAddr,
     began: Instant,
