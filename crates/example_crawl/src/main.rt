@@ -15,7 +15,7 @@
 
 ghost use Rattle.std.specs.Prelude.{◌≡◌, [], IfOk};
 ghost use mathlib.Core.List.{IsPrefix};
-ghost use Rattle.gopher_crew.specs.Crew.{hits_of};
+ghost use Rattle.gopher_crew.specs.Pass.{hits_of};
 ghost use Rattle.gopher_crew.specs.Desk.{IsBlankOf};
 
 mod burrow;

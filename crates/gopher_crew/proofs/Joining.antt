@@ -3,7 +3,7 @@ use Rattle.std.proofs.Common.{List, [], ◌∷◌, ◌++◌, Some, refl}
 use Rattle.std.proofs.lemmas.List.Elements.{All-pop, All-push}
 use mathlib.Core.List.{IsPrefix}
 use Rattle.gopher_catalogue.specs.declared.event.EventData.{EventData}
-use Rattle.gopher_crew.specs.Crew.{ShareData}
+use Rattle.gopher_crew.specs.Share.{ShareData}
 use Rattle.gopher_crew.specs.Desk.{HasAllSeen, JoinsAll}
 
 -- a record that begins with what several shares saw begins with what the last of them saw

@@ -5,7 +5,7 @@ use Rattle.gopher_catalogue.specs.declared.event.EventData.{EventData}
 use Rattle.gopher_catalogue.specs.declared.event.EventData.TheVariants.{Claimed}
 use Rattle.gopher_catalogue.specs.Step.{TurnData, Take, Idle, Finished, after_turn}
 use Rattle.gopher_catalogue.proofs.LegalSizes.{length-record_fits}
-use Rattle.gopher_crew.specs.Crew.{PublicationData, KeepsRecord}
+use Rattle.gopher_crew.specs.Publication.{PublicationData, KeepsRecord}
 use Rattle.gopher_crew.specs.Kept.{rise_of}
 use Rattle.gopher_crew.proofs.Prefixes.{prefix_self, prefix_push, prefix_trans}
 

@@ -4,7 +4,7 @@ use Rattle.std.proofs.lemmas.List.{reverse-append}
 use Rattle.std.proofs.lemmas.List.Sums.{sum_by-cons}
 use Rattle.std.proofs.lemmas.Slice.Zip.{all_zipped_more}
 use Rattle.std.specs.List.{AllZip, sum_by}
-use Rattle.gopher_crew.specs.Crew.{ShareData}
+use Rattle.gopher_crew.specs.Share.{ShareData}
 use Rattle.gopher_crew.specs.Work.{Works}
 use Rattle.gopher_crew.specs.declared.working.Stop.{Stop}
 

@@ -7,7 +7,8 @@ use Rattle.gopher_catalogue.specs.declared.event.EventData.{EventData}
 use Rattle.gopher_catalogue.specs.Legal.{IsLegal}
 use Rattle.gopher_crew.specs.declared.fault.DeskFault.{DeskFault}
 use Rattle.gopher_crew.specs.declared.fault.DeskFault.TheVariants.{BadCount}
-use Rattle.gopher_crew.specs.Crew.{PassData, ShareData}
+use Rattle.gopher_crew.specs.Pass.{PassData}
+use Rattle.gopher_crew.specs.Share.{ShareData}
 use Rattle.gopher_crew.specs.History.{RecordPrefixData}
 
 -- what a desk is opened with: the name of a ledger and the number of its parts, a history, and the

@@ -13,7 +13,8 @@ use Rattle.gopher_catalogue.specs.declared.frontier.sizes.Added.{Added}
 use Rattle.gopher_catalogue.specs.declared.frontier.sizes.Status.{Status}
 use Rattle.gopher_catalogue.specs.Step.{TurnData, Take, Idle, turn_of, after_turn, added_by, found_fault, is_out_in, status_of}
 use Rattle.gopher_catalogue.specs.Turn.{IsTake}
-use Rattle.gopher_crew.specs.Crew.{PublicationData, ShareData}
+use Rattle.gopher_crew.specs.Publication.{PublicationData}
+use Rattle.gopher_crew.specs.Share.{ShareData}
 
 -- there is a note exactly if the published record is the whole record, and the note is of that
 -- record

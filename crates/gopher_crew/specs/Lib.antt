@@ -3,8 +3,9 @@ pub mod Version
 pub mod MergeJob
 pub mod Merging
 pub mod Publication
-pub mod Crew
 pub mod Fault
 pub mod Kept
 pub mod Desk
 pub mod Work
+pub mod Pass
+pub mod Share

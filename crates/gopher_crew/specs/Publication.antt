@@ -1,5 +1,5 @@
--- The published version of a writer, and the updates that wait.
-use Rattle.std.specs.Prelude.{◌≡◌, Bool, List, [], drop}
+-- A record and what is published of it: the version of a writer, and the updates that wait.
+use Rattle.std.specs.Prelude.{ℕ, ◌≡◌, ◌+◌, Bool, List, [], drop, length}
 use Rattle.left_right.specs.declared.Absorb.{Ghosts}
 use Rattle.left_right.specs.declared.writer.Writer.{Writer}
 use Rattle.logbook.specs.Pages.{Book}
@@ -8,6 +8,19 @@ use Rattle.gopher_page.specs.Page.{PageData}
 use Rattle.gopher_crew.specs.declared.publication.update.Update.{Update}
 use Rattle.gopher_crew.specs.History.{RecordPrefixData}
 use Rattle.gopher_crew.specs.Version.{VersionData, IsSeenVersion, FollowsVersion, CatchesUp, Follows, version_data, last_of}
+use Rattle.gopher_catalogue.specs.Legal.{IsLegal}
+
+-- a record, and the prefix of it that is published
+pub record PublicationData : Type 0 where
+  pub events : List EventData
+  pub published : List EventData
+
+-- a legal record, which was entered, and the count of its events after the first
+pub record KeepsRecord (record_ : List EventData) (publication : PublicationData) (count : ℕ)
+    : Type 0 where
+  pub legal : IsLegal record_
+  pub entered : publication.events ≡ record_
+  pub counted : length record_ ≡ count + 1
 
 -- the version of these pages and this record is one of this history, and its record begins with
 -- that of the version before

@@ -9,7 +9,7 @@ use Rattle.gopher_catalogue.specs.Legal.{IsLegal}
 use Rattle.gopher_catalogue.specs.Step.{Finished as FinishedTurn, turn_of}
 use Rattle.gopher_catalogue.specs.declared.event.Why.{Why}
 use Rattle.gopher_catalogue.specs.declared.event.Why.TheVariants.{NoMemory}
-use Rattle.gopher_crew.specs.Crew.{ShareData}
+use Rattle.gopher_crew.specs.Share.{ShareData}
 use Rattle.gopher_crew.specs.declared.working.Outcome.{Outcome}
 use Rattle.gopher_crew.specs.declared.working.Outcome.TheVariants.{Found, Failed, Refused}
 use Rattle.gopher_crew.specs.declared.working.Stop.{Stop}

@@ -7,7 +7,8 @@ ghost use Rattle.gopher_catalogue.specs.Legal.{IsLegal};
 ghost use Rattle.gopher_catalogue.specs.Pages.{pages_found};
 ghost use Rattle.gopher_index.specs.Searching.{begun_hits};
 ghost use Rattle.gopher_crew.specs.Desk.{has_seen};
-ghost use Rattle.gopher_crew.specs.Crew.{CountsEntry, Rises, SeesOn, hits_of};
+ghost use Rattle.gopher_crew.specs.Pass.{CountsEntry, SeesOn, hits_of};
+ghost use Rattle.gopher_crew.specs.Share.{Rises};
 ghost use Rattle.gopher_crew.specs.Version.{IsSeenVersion};
 
 use crate::crew::Crew;
@@ -48,7 +49,7 @@ pub struct Pass<C: Crew> {
 impl<C: Crew> Model for Pass<C> {
     ghost use Rattle.std.specs.Prelude.{◌≡◌};
     ghost use Rattle.left_right.specs.Sides.{view as view_of};
-    ghost use Rattle.gopher_crew.specs.Crew.{PassData};
+    ghost use Rattle.gopher_crew.specs.Pass.{PassData};
 
     ghost Value = { PassData };
 

@@ -3,7 +3,7 @@
 ghost use Rattle.std.specs.Prelude.{◌≡◌, ◌≢◌, false, [], IsTrue, map};
 ghost use mathlib.Core.List.{IsPrefix};
 ghost use Rattle.gopher_catalogue.specs.EventOf.{event_data};
-ghost use Rattle.gopher_crew.specs.Crew.{Rises};
+ghost use Rattle.gopher_crew.specs.Share.{Rises};
 ghost use Rattle.gopher_crew.specs.Kept.{IsNoted};
 ghost use Rattle.gopher_crew.specs.Publication.{PagesFollow, ShowsRecord, waiting_updates, NextFollows, WriterCatchesUp, WriterFollows};
 ghost use Rattle.gopher_crew.specs.Version.{version_data, IsVersion};
@@ -54,7 +54,7 @@ pub struct Publication<C: Crew, R: Wait + Drop> {
 
 impl<C: Crew, R: Wait + Drop> Model for Publication<C, R> {
     ghost use Rattle.std.specs.Prelude.{◌≡◌, drop};
-    ghost use Rattle.gopher_crew.specs.Crew.{PublicationData};
+    ghost use Rattle.gopher_crew.specs.Publication.{PublicationData};
     ghost use Rattle.gopher_crew.specs.Version.{IsPublication, last_of};
 
     ghost Value = { PublicationData };

@@ -2,7 +2,7 @@
 
 ghost use Rattle.std.specs.Prelude.{◌≡◌, ◌+◌, ◌*◌, ◌≤◌, if◌then◌else◌};
 ghost use mathlib.Core.List.{IsPrefix};
-ghost use Rattle.gopher_crew.specs.Crew.{Rises};
+ghost use Rattle.gopher_crew.specs.Share.{Rises};
 ghost use Rattle.gopher_crew.specs.Work.{one_more_call, found_rise, failed_rise, outcome_rise, IsPaid, IsStop, EndsClaim, WorksOnce, WorksOn, RisesByOutcomes};
 
 pub mod crawling;

@@ -5,7 +5,7 @@ use Rattle.gopher_item.specs.Place.{HomeData}
 use Rattle.gopher_text.specs.Watched.{HasFailed}
 use Rattle.gopher_page.specs.Query.{TermData}
 use Rattle.gopher_index.specs.declared.hit.Hit.{Hit}
-use Rattle.gopher_crew.specs.Crew.{PassData, SeesOn}
+use Rattle.gopher_crew.specs.Pass.{PassData, SeesOn}
 use Rattle.gopher_tree.specs.Reply.{error_bytes}
 use Rattle.gopher_serve.specs.Answer.{hits_bytes}
 use Rattle.gopher_hole.specs.Answer.{AnswersTerms, FindsHits}

@@ -3,7 +3,7 @@ use Rattle.std.proofs.Common.{subst}
 use mathlib.Core.List.{IsPrefix}
 use Rattle.gopher_crew.proofs.Prefixes.{prefix_self, prefix_trans}
 use Rattle.gopher_serve.specs.Leads.{Leads, stays, goes}
-use Rattle.gopher_crew.specs.Crew.{SeesOn}
+use Rattle.gopher_crew.specs.Pass.{SeesOn}
 use Rattle.gopher_hole.specs.Answer.{SiteData, LeadsOn, SearchesTakeNothingBack}
 
 sees_on : (a b : SiteData) → Leads LeadsOn a b → SeesOn a.pass b.pass

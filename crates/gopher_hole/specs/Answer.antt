@@ -14,7 +14,7 @@ use Rattle.gopher_tree.specs.Reply.{error_bytes, tree_reply}
 use Rattle.gopher_serve.specs.Answer.{hits_bytes}
 use Rattle.gopher_serve.specs.Kept.{RepliesData}
 use Rattle.gopher_catalogue.specs.Legal.{IsLegal}
-use Rattle.gopher_crew.specs.Crew.{PassData, SeesOn, hits_of}
+use Rattle.gopher_crew.specs.Pass.{PassData, SeesOn, hits_of}
 use mathlib.Core.List.{IsPrefix}
 use Rattle.gopher_serve.specs.Leads.{Leads}
 

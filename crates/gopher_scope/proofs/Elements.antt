@@ -7,7 +7,8 @@ use Rattle.std.proofs.Math.ListN.{get_or-map}
 use Rattle.toml.specs.Data.{Data, Members, as_array, as_table}
 use Rattle.toml.specs.View.{view, items_of, items_view, members_view}
 use Rattle.toml.specs.declared.value.Value.{Value}
-use Rattle.gopher_scope.specs.Rows.{elements, first_of, array_problem, element_problem, table_problem, values_read, table_names}
+use Rattle.gopher_scope.specs.Values.{elements, first_of, array_problem, element_problem, table_problem, values_read}
+use Rattle.gopher_scope.specs.Unknown.{table_names}
 use Rattle.gopher_scope.specs.declared.settings.tables.Element.{Element}
 use Rattle.gopher_scope.specs.declared.settings.row.Problem.TheVariants.{OutOfRange}
 

@@ -12,7 +12,9 @@ use Rattle.gopher_item.specs.Place.{is_host, is_place_kind, address_fault, place
 use Rattle.gopher_item.specs.declared.fault.ItemFault.{ItemFault}
 use Rattle.gopher_item.specs.declared.fault.ItemFault.TheVariants.{NoMemory}
 use Rattle.gopher_item.specs.Fault.{Makes}
-use Rattle.gopher_scope.specs.Rows.{integer_read, text_read, all_keys, key_row, element_fields, field_row, absent_text, is_in_range, elements, first_of, value_at, key_value, field_problem, integer_problem, number_read, text_problem, scalar_problem, table_problem, integer_in, text_in, element_problem, array_problem, values_read, form_problem, have_unknown}
+use Rattle.gopher_scope.specs.Values.{integer_read, text_read, elements, first_of, value_at, key_value, field_problem, integer_problem, number_read, text_problem, scalar_problem, table_problem, integer_in, text_in, element_problem, array_problem, values_read, form_problem}
+use Rattle.gopher_scope.specs.Rows.{all_keys, key_row, element_fields, field_row, absent_text, is_in_range}
+use Rattle.gopher_scope.specs.Unknown.{have_unknown}
 use Rattle.gopher_scope.specs.Settings.{key_fault, settings_fault, settings_read, settings_data, settings_of, kind_read, Answers, ReadsTable, IsUpTo, AreInRange, AreValuesIn, SettingsData}
 use Rattle.gopher_scope.specs.declared.settings.Settings.{Settings}
 use Rattle.gopher_scope.specs.declared.fault.SettingsFault.{SettingsFault}

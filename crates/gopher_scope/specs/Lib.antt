@@ -3,3 +3,7 @@ pub mod Settings
 pub mod Fault
 pub mod Lines
 pub mod Report
+pub mod Values
+pub mod Unknown
+pub mod Obstacle
+pub mod Explained

@@ -10,7 +10,8 @@ use Rattle.gopher_item.specs.Menu.{first_field}
 use Rattle.std.specs.List.{flat_map}
 use Rattle.toml.specs.Data.{Members}
 use Rattle.gopher_item.specs.Scope.{first_outside}
-use Rattle.gopher_scope.specs.Rows.{key_name, all_keys, Unknown, unknown_keys}
+use Rattle.gopher_scope.specs.Rows.{key_name, all_keys}
+use Rattle.gopher_scope.specs.Unknown.{Unknown, unknown_keys}
 use Rattle.gopher_scope.specs.Settings.{SettingsData, key_fault, settings_of}
 use Rattle.gopher_scope.specs.declared.fault.SettingsFault.{SettingsFault}
 use Rattle.gopher_scope.specs.declared.settings.key.Key.{Key}
@@ -18,7 +19,9 @@ use Rattle.gopher_tree.specs.Files.{File}
 use Rattle.gopher_tree.specs.declared.load.trail.Trail.{Trail}
 use Rattle.gopher_tree.specs.declared.fault.TreeFault.{TreeFault}
 use Rattle.gopher_tree.specs.Load.{LoadsTo}
-use Rattle.gopher_scope.specs.Fault.{site_fault_code, explained, IsReason}
+use Rattle.gopher_scope.specs.Fault.{site_fault_code}
+use Rattle.gopher_scope.specs.Explained.{explained}
+use Rattle.gopher_scope.specs.Obstacle.{IsReason}
 use Rattle.gopher_scope.specs.declared.report.obstacle.Obstacle.{Obstacle}
 use Rattle.gopher_scope.specs.declared.fault.SiteFault.{SiteFault}
 use Rattle.gopher_scope.specs.declared.report.fault_report.Report.{Report}

@@ -8,7 +8,9 @@ use Rattle.toml.specs.Parse.{parse_document}
 use Rattle.gopher_item.specs.Place.{PlaceData, HomeData, place_of}
 use Rattle.gopher_item.specs.Rule.{RuleData, rule_of}
 use Rattle.gopher_item.specs.Scope.{ScopeData}
-use Rattle.gopher_scope.specs.Rows.{all_keys, key_row, field_row, first_of, form_problem, key_value, integer_read, text_read, elements_at, have_unknown}
+use Rattle.gopher_scope.specs.Rows.{all_keys, key_row, field_row}
+use Rattle.gopher_scope.specs.Values.{first_of, form_problem, key_value, integer_read, text_read}
+use Rattle.gopher_scope.specs.Unknown.{elements_at, have_unknown}
 use Rattle.gopher_scope.specs.declared.fault.SettingsFault.{SettingsFault}
 use Rattle.gopher_scope.specs.declared.fault.SettingsFault.TheVariants as fault
 use Rattle.gopher_scope.specs.declared.settings.Settings.{Settings}

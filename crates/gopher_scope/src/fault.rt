@@ -2,7 +2,8 @@
 //! number, the cause and the remedy of each.
 
 ghost use Rattle.std.specs.Prelude.{◌≡◌};
-ghost use Rattle.gopher_scope.specs.Fault.{settings_fault_code, site_fault_code, explained, range_remedy, settings_explained, tree_explained};
+ghost use Rattle.gopher_scope.specs.Fault.{settings_fault_code, site_fault_code};
+ghost use Rattle.gopher_scope.specs.Explained.{explained, range_remedy, settings_explained, tree_explained};
 
 use crate::report::Obstacle;
 use crate::settings::Key;

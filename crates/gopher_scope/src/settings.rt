@@ -2,7 +2,8 @@
 
 ghost use Rattle.std.specs.Prelude.{◌≡◌, None, IfOk, IfErr};
 ghost use Rattle.toml.specs.View.{table_view};
-ghost use Rattle.gopher_scope.specs.Rows.{integer_read, key_row};
+ghost use Rattle.gopher_scope.specs.Values.{integer_read};
+ghost use Rattle.gopher_scope.specs.Rows.{key_row};
 ghost use Rattle.gopher_scope.specs.Settings.{settings_data, settings_fault, home_read, settings_read, rules_at, ReadsTable, AreSettingsOf, AreInRange, AreValuesInText, IsFaultOf};
 
 mod check;

@@ -5,7 +5,7 @@ ghost use mathlib.Core.List.{IsPrefix};
 ghost use Rattle.gopher_catalogue.specs.Legal.{IsLegal};
 ghost use Rattle.gopher_catalogue.specs.Step.{status_of};
 ghost use Rattle.gopher_catalogue.specs.Turn.{turn_data};
-ghost use Rattle.gopher_crew.specs.Crew.{Rises, RisesBy};
+ghost use Rattle.gopher_crew.specs.Share.{Rises, RisesBy};
 ghost use Rattle.gopher_crew.specs.Desk.{events_of, CountTheSame, HasAll, HasAllSeen};
 ghost use Rattle.gopher_crew.specs.Kept.{IsNoted, IsCall, rise_of, Claims, Finds, Fails, RefusesFind, RefusesFailure, LetsClaim, IsStatusOf, IsStatusAfter};
 
@@ -38,7 +38,7 @@ impl<C: Crew, R: Wait + Drop> Model for Kept<C, R> {
     ghost use Rattle.std.specs.Prelude.{◌≡◌, ◌+◌, length};
     ghost use mathlib.Core.List.{IsPrefix};
     ghost use Rattle.gopher_catalogue.specs.Legal.{IsLegal};
-    ghost use Rattle.gopher_crew.specs.Crew.{PublicationData, KeepsRecord};
+    ghost use Rattle.gopher_crew.specs.Publication.{PublicationData, KeepsRecord};
 
     ghost Value = { PublicationData };
 

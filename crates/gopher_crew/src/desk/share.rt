@@ -2,7 +2,7 @@
 
 ghost use Rattle.std.specs.Prelude.{◌≡◌, ◌+◌, ◌<◌, ◌≤◌, ◌^◌, false, IsTrue};
 ghost use mathlib.Core.List.{IsPrefix};
-ghost use Rattle.gopher_crew.specs.Crew.{Rises};
+ghost use Rattle.gopher_crew.specs.Share.{Rises};
 
 use crate::crew::Crew;
 use crate::publication::record_prefix::RecordPrefix;
@@ -23,7 +23,7 @@ pub struct Share<C: Crew> {
 
 impl<C: Crew> Model for Share<C> {
     ghost use Rattle.std.specs.Prelude.{◌≡◌, ◌<◌};
-    ghost use Rattle.gopher_crew.specs.Crew.{ShareData};
+    ghost use Rattle.gopher_crew.specs.Share.{ShareData};
 
     ghost Value = { ShareData };
 

@@ -3,7 +3,7 @@
 ghost use Rattle.std.specs.Prelude.{◌≡◌, codes, IfOk, OnErr};
 ghost use Rattle.gopher_tree.specs.Reply.{error_bytes};
 ghost use Rattle.gopher_serve.specs.Answer.{IfAnswered};
-ghost use Rattle.gopher_crew.specs.Crew.{SeesOn};
+ghost use Rattle.gopher_crew.specs.Pass.{SeesOn};
 ghost use Rattle.gopher_hole.specs.Answer.{AnswersFrom, AnswersLine, IfBytes, is_search};
 
 use crate::site::searching::begin_search;

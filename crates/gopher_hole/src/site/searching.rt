@@ -2,7 +2,7 @@
 
 ghost use Rattle.std.specs.Prelude.{◌≡◌, ◌<◌, IfOk, OnErr, length};
 ghost use Rattle.gopher_serve.specs.Answer.{IfAnswered};
-ghost use Rattle.gopher_crew.specs.Crew.{SeesOn};
+ghost use Rattle.gopher_crew.specs.Pass.{SeesOn};
 ghost use Rattle.gopher_hole.specs.Answer.{AnswersTerms, IsQueryFor, asked};
 
 use gopher_crew::{Crew, Pass, SearchFault};

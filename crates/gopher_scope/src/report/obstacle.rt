@@ -2,7 +2,8 @@
 
 ghost use Rattle.std.specs.Prelude.{◌≡◌, IfErr, IfOk};
 ghost use Rattle.std.specs.IoError.{error_kind};
-ghost use Rattle.gopher_scope.specs.Fault.{excess, obstacle_explained, obstacle_of, IsReason};
+ghost use Rattle.gopher_scope.specs.Obstacle.{excess, obstacle_of, IsReason};
+ghost use Rattle.gopher_scope.specs.Explained.{obstacle_explained};
 
 use gopher_tree::{MAX_BYTES, MAX_FILE, Trail, TreeFault};
 use std::alloc::{AllocGlobal, Global};

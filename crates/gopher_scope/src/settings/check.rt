@@ -2,7 +2,7 @@
 
 ghost use Rattle.std.specs.Prelude.{◌≡◌};
 ghost use Rattle.toml.specs.View.{table_view};
-ghost use Rattle.gopher_scope.specs.Rows.{first_of};
+ghost use Rattle.gopher_scope.specs.Values.{first_of};
 ghost use Rattle.gopher_scope.specs.Settings.{key_fault, settings_fault};
 
 use super::key::Key;

@@ -2,7 +2,8 @@
 
 ghost use Rattle.std.specs.Prelude.{◌≡◌, map, Some, None, IfOk};
 ghost use Rattle.toml.specs.View.{view, table_view};
-ghost use Rattle.gopher_scope.specs.Rows.{field_row, integer_read, text_read, first_of, field_problem, table_problem, element_problem};
+ghost use Rattle.gopher_scope.specs.Rows.{field_row};
+ghost use Rattle.gopher_scope.specs.Values.{integer_read, text_read, first_of, field_problem, table_problem, element_problem};
 ghost use Rattle.gopher_scope.specs.Settings.{kind_read, seed_read, rule_read, seeds_read, rules_read};
 
 use super::tables::{Element, Field};

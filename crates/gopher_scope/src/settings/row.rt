@@ -5,7 +5,8 @@ ghost use Rattle.std.specs.Prelude.{◌≡◌, map, None};
 ghost use Rattle.std.specs.Option.{option_copied, option_map};
 ghost use Rattle.toml.specs.Data.{as_integer, as_str};
 ghost use Rattle.toml.specs.View.{view, table_view};
-ghost use Rattle.gopher_scope.specs.Rows.{absent_text, is_in_range, integer_problem, number_read, text_problem, scalar_problem, form_problem, integer_read, text_read, values_read, value_at};
+ghost use Rattle.gopher_scope.specs.Rows.{absent_text, is_in_range};
+ghost use Rattle.gopher_scope.specs.Values.{integer_problem, number_read, text_problem, scalar_problem, form_problem, integer_read, text_read, values_read, value_at};
 ghost use Rattle.gopher_scope.specs.Settings.{fault_at};
 
 use super::key::Key;

@@ -3,7 +3,9 @@
 ghost use Rattle.std.specs.Prelude.{◌≡◌, map, Some};
 ghost use Rattle.toml.specs.Data.{as_array};
 ghost use Rattle.toml.specs.View.{view, table_view};
-ghost use Rattle.gopher_scope.specs.Rows.{element_fields, field_row, first_of, table_problem, element_problem, array_problem, is_field_name};
+ghost use Rattle.gopher_scope.specs.Rows.{element_fields, field_row};
+ghost use Rattle.gopher_scope.specs.Values.{first_of, table_problem, element_problem, array_problem};
+ghost use Rattle.gopher_scope.specs.Unknown.{is_field_name};
 
 use super::row::{Form, Problem, Row, TextKind};
 use gopher_item::MAX_PORT;

@@ -3,7 +3,7 @@
 ghost use Rattle.std.specs.Prelude.{◌≡◌, None, IfOk};
 ghost use Rattle.std.specs.List.{list_any};
 ghost use Rattle.toml.specs.View.{view, table_view};
-ghost use Rattle.gopher_scope.specs.Rows.{is_key_name, is_known_in, has_unknown, array_has_unknown, have_unknown, unknown_in, array_unknown, arrays_unknown, unknown_keys};
+ghost use Rattle.gopher_scope.specs.Unknown.{is_key_name, is_known_in, has_unknown, array_has_unknown, have_unknown, unknown_in, array_unknown, arrays_unknown, unknown_keys};
 ghost use Rattle.gopher_scope.specs.Lines.{Puts};
 
 use super::key::Key;
@@ -24,7 +24,7 @@ pub(crate) struct UnknownKey<'a> {
 }
 
 impl<'a> Model for UnknownKey<'a> {
-    ghost use Rattle.gopher_scope.specs.Rows.{Unknown};
+    ghost use Rattle.gopher_scope.specs.Unknown.{Unknown};
 
     ghost Value = { Unknown };
 

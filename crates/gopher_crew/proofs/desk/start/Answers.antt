@@ -3,7 +3,7 @@ use Rattle.std.proofs.lemmas.List.Folds.{sum_by-replicate}
 use Rattle.std.proofs.lemmas.List.Sums.{sum_by-cons}
 use Rattle.std.proofs.Math.ListN.{replicate}
 use Rattle.gopher_catalogue.specs.declared.event.EventData.{EventData}
-use Rattle.gopher_crew.specs.Crew.{ShareData}
+use Rattle.gopher_crew.specs.Share.{ShareData}
 use Rattle.gopher_crew.specs.Desk.{shares_at, parts_of, HasAll}
 use Rattle.gopher_crew.proofs.desk.start.Goals as goal
 

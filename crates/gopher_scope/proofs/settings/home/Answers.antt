@@ -3,7 +3,8 @@ use Rattle.toml.specs.View.{table_view}
 use Rattle.gopher_item.specs.Place.{HomeData, address_fault}
 use Rattle.gopher_item.specs.declared.fault.ItemFault.TheVariants.{NoMemory}
 use Rattle.gopher_scope.proofs.Faultless.{form_problem-none, home_fault-none, integer_in_range, Makes-none}
-use Rattle.gopher_scope.specs.Rows.{integer_read, key_row, key_value}
+use Rattle.gopher_scope.specs.Values.{integer_read, key_value}
+use Rattle.gopher_scope.specs.Rows.{key_row}
 use Rattle.gopher_scope.specs.Settings.{IsUpTo}
 use Rattle.gopher_scope.specs.declared.settings.key.Key.TheVariants.{Port}
 use Rattle.gopher_scope.proofs.settings.home.Goals as goal

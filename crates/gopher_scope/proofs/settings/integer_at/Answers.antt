@@ -1,6 +1,7 @@
 use Rattle.toml.specs.View.{table_view}
 use Rattle.gopher_scope.proofs.Faultless.{form_problem-none, scalar_problem-none}
-use Rattle.gopher_scope.specs.Rows.{key_value, key_row}
+use Rattle.gopher_scope.specs.Values.{key_value}
+use Rattle.gopher_scope.specs.Rows.{key_row}
 use Rattle.gopher_scope.proofs.settings.integer_at.Goals as goal
 
 pub integer-requires : goal.integer-requires

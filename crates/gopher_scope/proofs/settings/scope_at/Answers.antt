@@ -1,6 +1,6 @@
 use Rattle.toml.specs.View.{table_view}
 use Rattle.gopher_scope.proofs.Faultless.{form_problem-none, values_read-none}
-use Rattle.gopher_scope.specs.Rows.{key_value}
+use Rattle.gopher_scope.specs.Values.{key_value}
 use Rattle.gopher_scope.specs.declared.settings.tables.Element.TheVariants.{Rule}
 use Rattle.gopher_scope.specs.declared.settings.key.Key.TheVariants.{Allow, Deny}
 use Rattle.gopher_scope.proofs.settings.scope_at.Goals as goal

@@ -1,6 +1,6 @@
 use Rattle.toml.specs.View.{table_view}
 use Rattle.gopher_scope.proofs.Faultless.{form_problem-none, values_read-none}
-use Rattle.gopher_scope.specs.Rows.{key_value}
+use Rattle.gopher_scope.specs.Values.{key_value}
 use Rattle.gopher_scope.specs.declared.settings.tables.Element.TheVariants.{Seed}
 use Rattle.gopher_scope.specs.declared.settings.key.Key.TheVariants.{Seeds}
 use Rattle.gopher_scope.proofs.settings.settings_read.Goals as goal

@@ -2,7 +2,7 @@ use Rattle.std.proofs.Common.{◌≡◌, ◌∙◌, List, ap, rules, subst, sym}
 use mathlib.Core.List.{IsPrefix}
 use Rattle.gopher_catalogue.specs.declared.event.EventData.{EventData}
 use Rattle.gopher_catalogue.specs.Legal.{IsLegal}
-use Rattle.gopher_crew.specs.Crew.{PublicationData}
+use Rattle.gopher_crew.specs.Publication.{PublicationData}
 use Rattle.gopher_crew.specs.Desk.{HasAllSeen}
 use Rattle.gopher_crew.proofs.desk.Desk.close.Goals as goal
 

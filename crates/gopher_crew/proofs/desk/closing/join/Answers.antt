@@ -2,7 +2,7 @@ use Rattle.std.proofs.Common.{◌≡◌, [], List, arith, rules, subst, sym}
 use Rattle.std.proofs.lemmas.Grind.{common_steps}
 use Rattle.std.proofs.lemmas.List.Elements.{All-nil, All-push}
 use mathlib.Core.List.{IsPrefix}
-use Rattle.gopher_crew.specs.Crew.{ShareData}
+use Rattle.gopher_crew.specs.Share.{ShareData}
 use Rattle.gopher_crew.specs.Desk.{HasAllSeen}
 use Rattle.gopher_crew.proofs.Prefixes.{prefix_trans}
 use Rattle.gopher_crew.proofs.desk.closing.join.Goals as goal

@@ -1,6 +1,6 @@
 use Rattle.std.proofs.Common.{drop, subst}
 use mathlib.Core.List.{IsPrefix}
-use Rattle.gopher_crew.specs.Crew.{PublicationData}
+use Rattle.gopher_crew.specs.Publication.{PublicationData}
 use Rattle.gopher_crew.specs.Version.{version_data}
 use Rattle.gopher_crew.proofs.PublicationLemmas.{grows_on}
 use Rattle.gopher_crew.proofs.publication.Publication.publish.Goals as goal

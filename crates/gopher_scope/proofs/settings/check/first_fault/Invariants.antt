@@ -1,6 +1,6 @@
 use Rattle.std.proofs.Common.{◌≡◌, drop}
 use Rattle.toml.specs.View.{table_view}
-use Rattle.gopher_scope.specs.Rows.{first_of}
+use Rattle.gopher_scope.specs.Values.{first_of}
 use Rattle.gopher_scope.specs.Settings.{key_fault}
 use Rattle.gopher_scope.proofs.settings.check.first_fault.Given as goal
 

@@ -1,7 +1,7 @@
 use Rattle.std.proofs.Common.{◌≡◌, drop, map}
 use Rattle.std.specs.List.{list_any}
 use Rattle.toml.specs.View.{table_view, view}
-use Rattle.gopher_scope.specs.Rows.{array_has_unknown, element_has_unknown}
+use Rattle.gopher_scope.specs.Unknown.{array_has_unknown, element_has_unknown}
 use Rattle.gopher_scope.proofs.settings.unknown.array_has_unknown.Given as goal
 
 abbrev pub invariant-loop-value : goal.invariant-loop-value

@@ -1,6 +1,6 @@
 use Rattle.std.proofs.Common.{◌≡◌, ◌++◌, map, string_bytes}
 use Rattle.toml.specs.View.{table_view}
-use Rattle.gopher_scope.specs.Rows.{unknown_among, unknown_in}
+use Rattle.gopher_scope.specs.Unknown.{unknown_among, unknown_in}
 use Rattle.gopher_scope.proofs.settings.unknown.push_table.Given as goal
 
 abbrev pub invariant-loop-name : goal.invariant-loop-name

@@ -2,7 +2,8 @@ use Rattle.std.proofs.Common.{List, arith, subst, sym, ◌∙◌}
 use Rattle.std.proofs.lemmas.Grind.{common_steps}
 use mathlib.Core.List.{IsPrefix}
 use Rattle.gopher_catalogue.specs.declared.event.EventData.{EventData}
-use Rattle.gopher_crew.specs.Crew.{PublicationData, ShareData}
+use Rattle.gopher_crew.specs.Publication.{PublicationData}
+use Rattle.gopher_crew.specs.Share.{ShareData}
 use Rattle.gopher_crew.specs.Desk.{HasAllSeen}
 use Rattle.gopher_crew.proofs.Joining.{joined_have_seen, last_has_seen}
 use Rattle.gopher_crew.proofs.Keeping.{few_events}

@@ -1,7 +1,7 @@
 use Rattle.std.proofs.Common.{ap, ◌∙◌}
 use Rattle.toml.proofs.Views.{table_get}
 use Rattle.toml.specs.View.{table_view}
-use Rattle.gopher_scope.specs.Rows.{value_at}
+use Rattle.gopher_scope.specs.Values.{value_at}
 use Rattle.gopher_scope.proofs.settings.row.Row.value.Goals as goal
 
 pub returns : goal.returns
