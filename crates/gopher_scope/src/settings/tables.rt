@@ -109,7 +109,7 @@ impl Element {
     }
 
     /// Returns whether such a table may have a key of this name.
-    #[tactic(auto, unfolding(crate::specs::Rows::is_field_name))]
+    #[tactic(auto, unfolding(crate::specs::Unknown::is_field_name))]
     pub(crate) fn is_field_name(self, name: &str) -> bool
         ensures { result ≡ is_field_name self name.now }
     {

@@ -32,7 +32,7 @@ impl<'a> Model for UnknownKey<'a> {
 }
 
 // Whether one of these keys of the settings has this name.
-#[tactic(auto, unfolding(crate::specs::Rows::is_key_name))]
+#[tactic(auto, unfolding(crate::specs::Unknown::is_key_name))]
 fn is_key_name(keys: &[Key], name: &str) -> bool
     ensures { result ≡ is_key_name keys.now name.now }
 {
@@ -87,7 +87,7 @@ fn arrays_have_unknown(table: &Table, keys: &[Key]) -> bool
 }
 
 /// Returns whether the settings, or a table in one of their arrays, have an unknown key.
-#[tactic(auto, unfolding(crate::specs::Rows::have_unknown))]
+#[tactic(auto, unfolding(crate::specs::Unknown::have_unknown))]
 pub(crate) fn have_unknown(table: &Table) -> bool
     ensures { result ≡ have_unknown (table_view table.now) }
 {
