@@ -66,11 +66,12 @@ audit:
 files:
 	@tools/list_files.py $(CRATE)
 
-# Writes the parts of the documents that come from the sources: README's counts and the picture of the crates.
+# Writes what comes from the sources: README's counts, the picture of the crates, and the list of the wrong bodies.
 .PHONY: documents
 documents:
 	tools/numbers_of_code.py --write
 	tools/draw.py
+	tools/edits.py > tools/wrong_bodies.txt
 
 # Lets each installed Gopher client ask a server of the example's site for a menu, a text, a search and an image.
 # If there is no proved program, it begins with an hour of proofs.

@@ -1,3 +1,4 @@
+#!/usr/bin/env python3
 """Wrong bodies as their files have them, and sources with them: what tools/wrong_bodies.py judges.
 
 crates/CRATE/wrong-bodies/FILE.edit has the wrong bodies of src/FILE.rt, one paragraph each, of lines 'word: text':
@@ -19,6 +20,8 @@ crates/CRATE/wrong-bodies/FILE.edit has the wrong bodies of src/FILE.rt, one par
 
 crates/CRATE/right-bodies/FILE.edit has edits that change no meaning, in the same form without `holds`: none of them may be judged
 to be wrong by what the wrong bodies of its function hold.
+
+    tools/edits.py    prints the names of all of them, which tools/wrong_bodies.txt lists, so that none goes unseen
 """
 import pathlib
 import re
@@ -160,3 +163,13 @@ def setup_of(root, crate):
     for kind, name, text in zip(parts[::3], parts[1::3], parts[2::3]):
         {"items": items, "case": functions, "call": calls}[kind][name] = text.strip()
     return items, {"": DEFAULT_CASE, **{name: (text, calls[name]) for name, text in functions.items()}}
+
+
+def names(root):
+    """The names of all wrong bodies, worked rows and right bodies of a repository."""
+    found = [(kind.kind, *read_edits(root, crate.name, kind)) for crate in sorted((root / "crates").iterdir()) for kind in (Edit, RightBody)]
+    return sorted(f"{kind} {it}" for kind, good, bad in found for it in [*good, *(it for it, _ in bad)])
+
+
+if __name__ == "__main__":
+    print(*names(pathlib.Path(__file__).resolve().parent.parent), sep="\n")

@@ -126,6 +126,11 @@ class OwnEdits(unittest.TestCase):
         for kind in (edits.Edit, edits.RightBody):
             self.assertEqual([f"{it}: {why}" for _, bad in self.all_of(kind).values() for it, why in bad], [])
 
+    def test_none_came_or_went_unseen(self):
+        listed, found = (TOOLS / "wrong_bodies.txt").read_text().splitlines(), edits.names(ROOT)
+        self.assertEqual([f"gone: {it}" for it in listed if it not in found], [], "run make documents if it should go")
+        self.assertEqual([f"new: {it}" for it in found if it not in listed], [], "run make documents")
+
     def test_right_bodies_of_many_crates_stand_against_them(self):
         found = self.all_of(edits.RightBody)
         self.assertGreaterEqual(len([crate for crate, (right, _) in found.items() if right]), 5)
