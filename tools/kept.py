@@ -1,7 +1,7 @@
 """What was judged and stands, kept on this machine: what tools/wrong_bodies.py need not judge again.
 
-It lies in the folder that HOLE_GATE_CACHE names, or else in hole-gate among the user's caches: a file for each crate, with a sum of
-all that its check and its program read, and its verdicts. A file that can't be read or has another sum counts as none.
+It lies in the folder that HOLE_GATE_CACHE names, or else in hole-gate among the user's caches: a file for each crate, with sums of
+all that its check and its program read. A file that can't be read or has other sums counts as none.
 """
 import contextlib
 import hashlib
@@ -13,8 +13,10 @@ import re
 from toolchain import kit
 
 TOOLS = pathlib.Path(__file__).resolve().parent
+JUDGE = [TOOLS / f"{name}.py" for name in ("wrong_bodies", "edits", "functions", "kept", "toolchain")]
 # a store that can't be used, or no home for it
 BROKEN = (OSError, ValueError, RuntimeError, KeyError)
+NOTHING = {"sum": "", "verdicts": {}, "proofs": {}}
 # the parts of the toolchain that a check or a program is made of
 PARTS_OF_KIT = ("bin", "toolchain", "logic_built", "c", "rlibs", "rattle/core", "rattle/logic", "rattle/antt")
 
@@ -38,37 +40,63 @@ def sum_of_kit():
 
 
 class Kept:
-    """The verdicts of a repository's crates, with the crates below each."""
+    """The verdicts of a repository's crates and the proofs of their witnesses, with the crates below each. A proof stands while its
+    witness, the sources and what witnesses of its crate share stay the same; the verdicts of a crate while nothing of it changes."""
 
     def __init__(self, root, below, is_read=True):
         self.root, self.below, self.is_read, self.kit = root, below, is_read, sum_of_kit()
 
-    def sum(self, crate):
-        """The sum of all that the verdicts of a crate rest on."""
-        crates, files = [*self.below[crate], crate], [self.root / "HANDLES", *sorted(TOOLS.glob("*.py"))]
+    def sum(self, crate, parts=("wrong-bodies", "right-bodies", "must-fail")):
+        """The sum of the judge and the toolchain, of the sources of a crate and of those below it, and of these parts of it."""
+        crates, files = [*self.below[crate], crate], [self.root / "HANDLES", *JUDGE]
         for name in crates:
             for part in ("src", "specs", "proofs"):
                 files += sorted((self.root / "crates" / name / part).rglob("*"))
-        for part in ("wrong-bodies", "right-bodies", "must-fail"):
-            files += sorted((self.root / "crates" / crate / part).rglob("*"))
+        for part in parts:
+            found = self.root / "crates" / crate / part
+            files += [found] if found.is_file() else sorted(found.rglob("*"))
         read = [(str(file), sum_of(file.read_bytes())) for file in files if file.is_file()]
-        read = [(file.removeprefix(str(self.root)), it) for file, it in read]
+        read = [(file.removeprefix(str(self.root)).removeprefix(str(TOOLS)), it) for file, it in read]
         lines = [line for line in (self.root / "crates.txt").read_text().splitlines() if re.match(r"\w*", line)[0] in crates]
         return sum_of(self.kit, crate, lines, read)
+
+    def sums_of_proofs(self, edits):
+        """The sum of each proof of a crate's witnesses, by edit."""
+        shared = self.sum(edits[0].crate, ["wrong-bodies/setup.txt"]) if edits else ""
+        return {edit: sum_of(shared, edit.name, edit.file, edit.case, edit.given, edit.holds) for edit in edits}
+
+    def read(self, crate):
+        """What is kept of a crate."""
+        with contextlib.suppress(*BROKEN):
+            kept = json.loads((place() / f"{crate}.json").read_text())
+            return kept if self.is_read and kept.keys() == NOTHING.keys() else NOTHING
+        return NOTHING
+
+    def write(self, crate, **parts):
+        with contextlib.suppress(*BROKEN):
+            place().mkdir(parents=True, exist_ok=True)
+            new = place() / f".{crate}.{os.getpid()}"
+            new.write_text(json.dumps({**self.read(crate), **parts}))
+            new.replace(place() / f"{crate}.json")
+
+    def proved(self, sums):
+        """The edits of a crate whose proofs are kept."""
+        known = self.read(next(iter(sums)).crate)["proofs"] if sums else {}
+        return {edit for edit, of_proof in sums.items() if of_proof in known}
+
+    def keep_proofs(self, sums, edits):
+        """Keeps proofs, unless a source has changed since their sums were made."""
+        if edits and self.sums_of_proofs(edits) == {edit: sums[edit] for edit in edits}:
+            crate = edits[0].crate
+            self.write(crate, proofs={**self.read(crate)["proofs"], **{sums[edit]: edit.name for edit in edits}})
 
     def or_made(self, crate, those, make):
         """The verdicts on a crate's edits that are kept, or else those that are made, which are kept if all passed."""
         known, before = {str(it): it for part in those for it in part}, self.sum(crate)
-        names = sum_of(sorted(known))
-        with contextlib.suppress(*BROKEN):
-            kept = json.loads((place() / crate).read_text()) if self.is_read else {}
-            if kept.get("sum") == before and kept.get("names") == names:
-                return {known[name]: (True, why) for name, why in kept["verdicts"].items()}
+        kept, names = self.read(crate), sum_of(before, sorted(known))
+        if kept["sum"] == names:
+            return {known[name]: (True, why) for name, why in kept["verdicts"].items()}
         verdicts = make(*those)
-        with contextlib.suppress(*BROKEN):
-            if all(is_passed for is_passed, _ in verdicts.values()) and self.sum(crate) == before:
-                place().mkdir(parents=True, exist_ok=True)
-                new = place() / f".{crate}.{os.getpid()}"
-                new.write_text(json.dumps({"sum": before, "names": names, "verdicts": {str(it): why for it, (_, why) in verdicts.items()}}))
-                new.replace(place() / crate)
+        if all(is_passed for is_passed, _ in verdicts.values()) and self.sum(crate) == before:
+            self.write(crate, sum=names, verdicts={str(it): why for it, (_, why) in verdicts.items()})
         return verdicts

@@ -175,9 +175,26 @@ class Keeping(unittest.TestCase):
         with mock.patch.object(kept, "sum_of_kit", lambda: "another"):
             self.assertEqual(self.made(), 1)
 
+    def test_a_proof_stands_while_its_witness_and_the_sources_do(self):
+        one = edits.Edit("small", "src/lib.rt", "name: one\nholds: 1 == 1")
+        store = kept.Kept(self.room, {"low": [], "small": ["low"], "other": []})
+        store.keep_proofs(store.sums_of_proofs([one]), [one])
+        is_kept = lambda: store.proved(store.sums_of_proofs([one])) == {one}
+        self.write("small/wrong-bodies/lib.edit", "two")
+        self.assertTrue(is_kept())
+        self.write("small/wrong-bodies/setup.txt", "two")
+        self.assertFalse(is_kept())
+        (self.room / "crates/small/wrong-bodies/setup.txt").unlink()
+        one.holds = ["1 == 2"]
+        self.assertFalse(is_kept())
+        one.holds = ["1 == 1"]
+        self.assertTrue(is_kept())
+        self.write("low/src/lib.rt", "two")
+        self.assertFalse(is_kept())
+
     def test_a_broken_store_counts_as_none(self):
         self.made()
-        (self.room / "kept/small").write_text("{")
+        (self.room / "kept/small.json").write_text("{")
         self.assertEqual(self.made(), 1)
 
 

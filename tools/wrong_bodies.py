@@ -252,8 +252,8 @@ def results(said):
     return found
 
 
-def judge(crate, edits, rights, below):
-    """The verdict on each edit and right body of a crate: whether it passed, and why."""
+def judge(crate, edits, rights, below, kept):
+    """The verdict on each edit and right body of a crate: whether it passed, and why. Proofs that are kept aren't sought again."""
     items, cases = setup_of(ROOT, crate)
     for edit in edits:
         if edit.case not in cases:
@@ -263,7 +263,10 @@ def judge(crate, edits, rights, below):
     words, faults = tried(crate, judged, rights, items, cases, below)
     verdicts.update({edit: (False, why) for edit, why in faults.items()})
     left = [edit for edit in judged if edit not in faults]
-    lacks = unproved(crate, left, items, cases, below) if left else {}
+    sums = kept.sums_of_proofs(left)
+    new = [edit for edit in left if edit not in kept.proved(sums)]
+    lacks = unproved(crate, new, items, cases, below) if new else {}
+    kept.keep_proofs(sums, [edit for edit in new if edit not in lacks])
     for edit in left:
         true, of_edit = words.get((edit, None)), words.get((edit, edit))
         if true != "holds":
@@ -317,7 +320,7 @@ def main(words):
     build(dict.fromkeys(low for crate in found for low in below[crate]), below)
     verdicts = [(it, (False, why)) for it, why in bad]
     with ThreadPoolExecutor(at_once()) as pool:
-        judged = lambda crate: kept.or_made(crate, found[crate], lambda *those: judge(crate, *those, below[crate]))
+        judged = lambda crate: kept.or_made(crate, found[crate], lambda *those: judge(crate, *those, below[crate], kept))
         for result in pool.map(judged, found):
             verdicts += result.items()
     for it, (is_passed, why) in verdicts:
