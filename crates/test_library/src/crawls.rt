@@ -3,11 +3,11 @@
 ghost use Rattle.std.specs.Prelude.{◌≡◌, []};
 ghost use Rattle.gopher_crew.specs.Desk.{IsBlankOf};
 
-use crate::fetcher::Fetcher;
+use crate::fetcher::{Fetcher, Host};
 use crate::indexes::steps_of;
-use crate::opening::{book_of, opened, push, query};
+use crate::opening::{book_of, crawl, opened, push, query};
 use gopher_catalogue::Catalogue;
-use gopher_crew::{Blank, Calls, Crew, Share, Stop, WorkEnd, crawl, work};
+use gopher_crew::{self, Blank, Calls, Crew, Share, Stop, WorkEnd, work};
 use std::alloc::{AllocError, Global};
 use std::marker::Brand;
 use std::process::Abort;
@@ -20,11 +20,12 @@ const CRAWLS: u32 = 2_000;
 // A fetcher of an empty root for each share, which was called as often as its number.
 fn pairs<'a, C: Crew, R: Abort + AllocGlobal>(
     rt: &R,
+    host: &'a Host<'a>,
     shares: Vec<Share<C>>,
 ) -> Vec<(Fetcher<'a>, Share<C>)> {
     let mut pairs = Vec::new(rt.alloc());
     for (number, share) in (0..2u64).zip(shares) {
-        push(rt, &mut pairs, (Fetcher::new(b".\r\n", number), share));
+        push(rt, &mut pairs, (Fetcher::new(host, number), share));
     }
     pairs
 }
@@ -52,8 +53,10 @@ fn crawl_root<C: Crew + Send + Sync, R: Threads + Wait + Abort + AllocGlobal + S
     requires blank { IsBlankOf C.name C.parts C.history blank }
     requires begun { blank.begun ≡ [] }
 {
-    let (desk, _passes, shares) = opened::<C, R>(rt, blank, 2);
-    let ends = crawl(rt, rt.alloc(), &desk, pairs(rt, shares)).ok();
+    let host = Host::new(b".\r\n");
+    let begun = crawl(rt.alloc(), b"h", 10, 1).expect(rt, "no crawl");
+    let (desk, _passes, shares) = opened::<C, R>(rt, false, blank, begun, 2);
+    let ends = gopher_crew::crawl(rt, rt.alloc(), &desk, pairs(rt, &host, shares)).ok();
     let shares = shares_of(rt, ends.expect(rt, "no crawl"));
     let closed = desk.close(shares).ok().expect(rt, "the desk isn't closed");
     assert!(rt; closed.status().done == 1);
@@ -93,14 +96,20 @@ fn crawl_files<C: Crew, R: Wait + Abort + AllocGlobal>(
     requires blank { IsBlankOf C.name C.parts C.history blank }
     requires begun { blank.begun ≡ [] }
 {
-    let (desk, mut passes, mut shares) = opened::<C, R>(rt, blank, 1);
+    let host = Host::new(menu);
+    let begun = crawl(rt.alloc(), b"h", 20_000, 1).expect(rt, "no crawl");
+    let (desk, mut passes, mut shares) = opened::<C, R>(rt, false, blank, begun, 1);
     let mut pass = passes.pop().expect(rt, "no pass");
     let share = shares.pop().expect(rt, "no share");
-    let end = work(rt, rt.alloc(), &desk, Fetcher::new(menu, 0), share);
+    let end = work(rt, rt.alloc(), &desk, Fetcher::new(&host, 0), share);
     assert!(rt; end.stop == Stop::Finished && desk.status(rt).done == FILES + 1);
-    let answer = pass.search(&query(rt, b"moon")).expect(rt, "a search");
+    let answer = pass
+        .search(&query(rt, false, b"moon"))
+        .expect(rt, "a search");
     assert!(rt; answer.at == 2 * FILES + 3 && answer.hits.len() == 50);
-    let begun = pass.begin(&query(rt, b"a b c d e")).expect(rt, "a search");
+    let begun = pass
+        .begin(&query(rt, false, b"a b c d e"))
+        .expect(rt, "a search");
     assert!(rt; steps_of(rt, begun) == STEPS);
     push(rt, &mut shares, end.share);
     desk.close(shares).ok().expect(rt, "the desk isn't closed")
@@ -112,8 +121,10 @@ fn pages_that_were_merged_are_found(rt: HostRuntime) {
     let closed = crawl_files::<Brand, _>(&rt, Blank::new(), &menu);
     let mut index = closed.index().share(rt.alloc()).expect(&rt, "an index");
     assert!(rt; matches!(index.due(), Ok(None)));
-    let book = book_of(&rt, closed.record());
-    let hits = book.search(&query(&rt, b"moon")).expect(&rt, "a search");
+    let book = book_of(&rt, false, closed.record());
+    let hits = book
+        .search(&query(&rt, false, b"moon"))
+        .expect(&rt, "a search");
     let places = book.occurrences(b"moon").expect(&rt, "a list");
     assert!(rt; hits.len() == 50 && places.len() == FILES as usize);
 }

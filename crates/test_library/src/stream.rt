@@ -1,55 +1,85 @@
-//! A stream in memory that takes little at a time, is interrupted, and fails.
+//! A stream in memory that moves little at a time, is interrupted, waits and fails.
 
 use std::io::{self, Error, ErrorKind, Read, Write};
 
-/// Gives `given`. Takes `room` bytes, which have to be those that `left` begins with, at most three a
-/// call. Calls after that fail if the stream `fails`, and else move nothing. Every other call before
-/// is interrupted.
+/// How a stream goes on once it has moved its bytes.
+#[derive(Clone, Copy, PartialEq, Eq)]
+pub enum Ending {
+    /// Calls move nothing.
+    Ends,
+    /// Calls would block.
+    Waits,
+    /// Calls fail.
+    Fails,
+}
+
+/// Gives `given`. Takes `room` bytes, which have to be those that `left` begins with. A call moves
+/// at most `size` bytes. Once there is nothing to move, calls end as `ending` says.
 #[derive(Clone, Copy)]
 pub struct Stream<'a> {
     pub given: &'a [u8],
-    pub fails: bool,
     pub left: &'a [u8],
     pub room: usize,
-    pub was_interrupted: bool,
+    pub size: usize,
+    pub ending: Ending,
+    /// How many calls are interrupted before each other call.
+    pub interruptions: u32,
+    /// How many calls are interrupted before the next other call.
+    pub now: u32,
 }
 
 impl<'a> Stream<'a> {
-    /// One that gives and takes these bytes.
-    pub fn new(given: &'a [u8], fails: bool, left: &'a [u8], room: usize) -> Stream<'a> {
+    /// One that gives and takes these bytes, three a call. Every other call is interrupted.
+    pub fn new(given: &'a [u8], left: &'a [u8], room: usize, ending: Ending) -> Stream<'a> {
         Stream {
             given,
-            fails,
             left,
             room,
-            was_interrupted: false,
+            size: 3,
+            ending,
+            interruptions: 1,
+            now: 1,
         }
     }
 
-    // Interrupts every other call, and fails if there is nothing to move.
-    fn begin(&mut self, is_at_end: bool) -> io::Result<()> {
-        if is_at_end && self.fails {
-            return Err(Error::other("broken"));
+    /// A reader that gives these bytes.
+    pub fn giving(given: &'a [u8], ending: Ending) -> Stream<'a> {
+        Stream::new(given, b"", 0, ending)
+    }
+
+    /// A writer that takes `room` of these bytes.
+    pub fn taking(left: &'a [u8], room: usize, ending: Ending) -> Stream<'a> {
+        Stream::new(b"", left, room, ending)
+    }
+
+    // How many bytes this call may move.
+    fn begin(&mut self, is_at_end: bool) -> io::Result<usize> {
+        if is_at_end {
+            return match self.ending {
+                Ending::Ends => Ok(0),
+                Ending::Waits => Err(ErrorKind::WouldBlock.into()),
+                Ending::Fails => Err(Error::other("broken")),
+            };
         }
-        self.was_interrupted = !self.was_interrupted;
-        if self.was_interrupted && !is_at_end {
-            return Err(Error::new(ErrorKind::Interrupted, "again"));
+        if self.now > 0 {
+            self.now -= 1;
+            return Err(ErrorKind::Interrupted.into());
         }
-        Ok(())
+        self.now = self.interruptions;
+        Ok(self.size)
     }
 }
 
 impl Read for Stream<'_> {
     fn read(&mut self, buf: &mut [u8]) -> io::Result<usize> {
-        self.begin(self.given.is_empty())?;
-        self.given.read(buf)
+        let count = self.begin(self.given.is_empty())?.min(buf.len());
+        self.given.read(&mut buf[..count])
     }
 }
 
 impl Write for Stream<'_> {
     fn write(&mut self, buf: &[u8]) -> io::Result<usize> {
-        self.begin(self.room == 0)?;
-        let count = buf.len().min(self.room).min(3);
+        let count = self.begin(self.room == 0)?.min(buf.len()).min(self.room);
         let Some(rest) = self.left.strip_prefix(&buf[..count]) else {
             return Err(Error::other("other bytes"));
         };
@@ -58,6 +88,9 @@ impl Write for Stream<'_> {
     }
 
     fn flush(&mut self) -> io::Result<()> {
-        Err(Error::other("broken"))
+        match self.ending {
+            Ending::Ends => Ok(()),
+            _ => Err(Error::other("broken")),
+        }
     }
 }
