@@ -63,7 +63,8 @@ def judged(crate):
     folder = ROOT / "crates" / crate / "wrong-bodies"
     known, broken, reasons, told = clauses_of(crate), set(), {}, folder / "unbroken.txt"
     for path in folder.rglob("*.edit"):
-        broken |= {(short(function), clause) for function, clause in BREAKS.findall(path.read_text())}
+        judged_ones = [it for it in path.read_text().split("\n\n") if re.search(r"(?m)^holds: ", it)]
+        broken |= {(short(function), clause) for it in judged_ones for function, clause in BREAKS.findall(it)}
     if told.is_file():
         reasons = {(short(function), clause): why for function, clause, why in LINE.findall(told.read_text())}
     lost = [f"{crate}: {function} {clause}: no public function has this clause" for function, clause in sorted((broken | reasons.keys()) - {*known})]

@@ -1,8 +1,9 @@
 //! One whole conversation of a tree, over streams that block (`serve_one`).
 
-ghost use Rattle.std.specs.Prelude.{◌≡◌, IfErr};
+ghost use Rattle.std.specs.Prelude.{◌≡◌, IfErr, OnErr};
 ghost use Rattle.gopher_text.specs.Line.{IsNextLine};
 ghost use Rattle.gopher_serve.specs.Serve.{IsUnheard, HearsRequest, SendsReply};
+ghost use Rattle.gopher_crew.specs.Pass.{SeesOn};
 ghost use Rattle.gopher_hole.specs.Answer.{AnswersLine};
 
 use crate::site::answering::answer;
@@ -23,6 +24,9 @@ use std::io::{Read, Write};
 ///   `gopher_text::read_line_from`. Nothing was asked, and nothing written.
 /// - `WriteFailed` (13): that of `gopher_text::send`. A prefix of the reply was written.
 /// - `NoMemory` (90): out of memory. Nothing was written.
+///
+/// After any of them, the pass has seen at least what it had seen.
+#[tactic(auto, using(crate::proofs::SiteLeads::answered_sees_on, crate::proofs::SiteLeads::sees_itself))]
 pub fn serve_one<C: Crew, R: Read, W: Write>(
     alloc: Global,
     tree: &Tree,
@@ -35,6 +39,7 @@ pub fn serve_one<C: Crew, R: Read, W: Write>(
     ensures sent { SendsReply (IsNextLine R.remaining reader.old)
         (AnswersLine tree.now home.now pass.old pass.new) W.contents writer.old writer.new result }
     ensures unheard { IfErr result (λ fault. IsUnheard fault → pass.new ≡ pass.old) }
+    ensures refused { OnErr result (SeesOn pass.old pass.new) }
 {
     let line = read_line_from(alloc, reader)?;
     let reply = answer(alloc, tree, home, pass, &line)?;
