@@ -23,6 +23,7 @@ The last lines tell what large texts took, in MiB a text, and 'crawl memory: N p
 import contextlib
 import itertools
 import random
+import re
 import string
 import time
 
@@ -49,7 +50,11 @@ ALONE = 2.0
 # The KiB of an address space that the program and four stacks of so many KiB fill.
 SPACE, STACK = 36 << 10, 8 << 10
 STARTS, ASKED = 6, 20
-KEPT = (b"/text0.txt\r\n", b"/docs\r\n", b"/docs/b.gif\r\n", b"nothing\r\n")
+# Lines with the replies that are kept; WHERE stands for the host and port, between TABs, and CR LF.
+KEPT = {
+    b"/text0.txt\r\n": b"common word00000\r\n.\r\n", b"/docs\r\n": b"iWelcome\tWHERE.\r\n", b"/docs/b.gif\r\n": b"GIF\0.\n",
+    b"nothing\r\n": b"3Not found\tWHERE.\r\n",
+}
 WHOLE = f"known {REFUSED_TEXTS + 1} waiting 0 out 0 done {REFUSED_TEXTS + 1} dropped 0\n"
 
 # Large texts.
@@ -168,8 +173,13 @@ def last_line(test, root, workers, least, refused):
 
 
 def is_end(line):
-    """Whether a server ended as it does when out of memory: it printed the sizes of its crawl, or 90."""
-    return line == "hole: 90\n" or (line.startswith("known ") and " out 0 " in line)
+    """Whether a server ended as it does when out of memory: it printed 90, or the sizes of a crawl whose workers finished it or
+    stopped. Each place that it knows then waits or is done, none is dropped, and a root whose page is there has all its texts."""
+    sizes = re.fullmatch(r"known (\d+) waiting (\d+) out 0 done (\d+) dropped 0\n", line)
+    if sizes is None:
+        return line == "hole: 90\n"
+    known, waiting, done = map(int, sizes.groups())
+    return known == waiting + done and known in (1, REFUSED_TEXTS + 1)
 
 
 def check_refused(test):
@@ -198,8 +208,11 @@ def check_full(test):
     for start in range(STARTS):
         with test.serving(root, "--progress", more=more, before=before) as server:
             time.sleep(ALONE)
-            gone = sum(ask(server.port, line) == b"" for _ in range(ASKED) for line in KEPT)
-            test.expect(f"start {start}, memory is gone: replies that don't come", gone, 0)
+            where = f"\t{HOST}\t{server.port}\r\n".encode()
+            for line, reply in KEPT.items():
+                replies = [ask(server.port, line) for _ in range(ASKED)]
+                wanted = [reply.replace(b"WHERE", where)] * ASKED
+                test.expect(f"start {start}, memory is gone: {line!r}", replies, wanted)
 
 
 def first_text():

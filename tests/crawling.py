@@ -3,7 +3,7 @@
 
     tests/crawling.py [--pages N] [PROGRAM]
 
-The largest host has a menu of menus, of which each leads to 128 texts. N is 10,000 unless said. Another host counts what it is
+The largest host has a menu of menus, of which each leads to 128 texts; each text is found. N is 10,000 unless said. Another host counts what it is
 asked for: what the rules allow, once, and a place that can't be fetched as often as the settings say; --progress names each
 place that failed for good. A crawl of places where nobody listens ends. The words of a text that comes in pieces are those of its
 bytes. As many workers fetch at once as the settings say. The last line is 'crawling: N passed, M failed'.
@@ -39,8 +39,17 @@ def is_crawled(server, texts):
     return all(until_true(lambda: searched(server, b"p%d" % text) == [b"/%d" % text], until - time.monotonic()) for text in texts)
 
 
+def searches_of(pages):
+    """Searches that find each of so many texts once, and the texts that they find: those whose numbers begin alike."""
+    digits, found = max(len(str(pages - 1)) - 1, 1), collections.defaultdict(list)
+    for number in range(pages):
+        front = b"%d" % number
+        found[b"p" + (front if len(front) < digits else front[:digits] + b"*")].append(b"/" + front)
+    return found
+
+
 def check_crawl(test):
-    """Crawls a host of many texts, and searches rare and common words of them."""
+    """Crawls a host of many texts, finds each, and searches rare and common words of them."""
     pages = test.given.pages
     names, may_end = [b"/%d" % number for number in range(pages)], threading.Event()
 
@@ -58,6 +67,10 @@ def check_crawl(test):
             may_end.set()
             test.expect("the last text is found", is_crawled(server, [pages - 1]), True)
             first = sorted(names)[:MOST_HITS]
+            until = time.monotonic() + MOST_SECONDS
+            finds = lambda text, names: until_true(lambda: searched(server, text) == names, until - time.monotonic())
+            lost = {text: texts for text, texts in searches_of(pages).items() if not finds(text, texts)}
+            test.expect("searches that don't find the texts whose numbers begin so", lost, {})
             test.expect("a word of all texts", found_at_last(server, b"moon", first), first)
             without = [name for name in sorted(names) if name != b"/0"][:MOST_HITS]
             test.expect("a beginning of all words but one", searched(server, b"p* not p0"), without)

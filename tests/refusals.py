@@ -26,6 +26,8 @@ CRATE = ROOT / "crates" / "test_library"
 CALLS = CRATE / "out" / "test_library_tests"
 CALLED = "desks::refused_calls_succeed_when_made_again"
 MOST_RUNS = 100_000
+# Each of these runs asks for more allocations than this.
+LEAST_RUNS = 20
 SECONDS = 20
 QUESTIONS = (b"moon and p2*", b"p* not moon", b"a or b or c or p1 or p2 or p3", b"not moon", b"and or p4", b" -- ")
 SETTINGS = seeded(more="threads = 1\nworkers = 1\n") + f'[[deny]]\nhost = "{HOST}"\nport = PORT\nprefix = "/private"\n'
@@ -57,6 +59,8 @@ def refuse_each(test, name, words, given, wanted, is_refused):
         is_told = end != wanted and is_refused(*end)
         told += is_told
         test.expect(f"{name}, allocation {number} refused", end if not is_told else wanted, wanted)
+    # a run is counted only if the library was loaded, and its allocation refused if that many were asked for
+    test.expect(f"{name}: allocations are refused, to the last", number > LEAST_RUNS and counted < number, True)
     test.expect(f"{name}: how many of {number} refusals are told", told > 0, is_refused is not never)
 
 

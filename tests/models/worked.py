@@ -125,11 +125,24 @@ HOST_CASE = (
     None,
 )
 
+# A rule and a place that are refused, and a command before its time.
+REFUSED_PARTS = [
+    (b"allow\ta b\t70\t\n", b"refused 3\n", None), (b"seed\t7\th\t70\t\n", b"refused 1\n", None), (b"claim\n", b"", 1),
+]
+
+# Of two links one is denied, by a rule whose host is spelled in another case.
+DENIED_LINK = (
+    b"allow\th\t70\t\ndeny\tH\t70\t/p\nseed\t1\th\t70\t\nstart\t5\nclaim\nfound\t0\t1\th\t70\t\n|0X\t/p/x\th\t70\n"
+    b"|0Y\t/q\th\t70\nstatus\n",
+    b"ok\ntake\t0\t1\th\t70\t\nadded 1 0\nknown 2 waiting 1 out 0 done 1 dropped 0\n",
+    None,
+)
+
 REFUSED_TRIES = (b"start\t2\t0\nstart\t2\t6\nstart\t0\t0\n", b"refused 54\nrefused 54\nrefused 51\n", None)
 
 SCRIPTS = [
     FIRST_CRAWL, PLACE_LIMIT, REFUSED_START, TWO_TRIES, WHOLE_SEARCH, PREFIXES, MATCHES, SPACES, ODD_LINE, HOST_CASE,
-    REFUSED_TRIES,
+    REFUSED_TRIES, DENIED_LINK, *REFUSED_PARTS,
 ]
 
 # From here on, scripts for single rules.
