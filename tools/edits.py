@@ -17,6 +17,8 @@ crates/CRATE/wrong-bodies/FILE.edit has the wrong bodies of src/FILE.rt, one par
   other arguments, from crates/CRATE/wrong-bodies/setup.txt.
 - `told` says in place of `holds` why none can be had. `breaks` is for the reader: the clause that the body breaks.
 - A paragraph without an edit is a worked row: its `holds` is proved and run.
+- `crate::refuse_memory(true);` in a `given` refuses all memory from there on, until `crate::refuse_memory(false);`.
+- An edit may add fields to a struct. Then it has a program of its own.
 
 crates/CRATE/right-bodies/FILE.edit has edits that change no meaning, in the same form without `holds`: none of them may be judged
 to be wrong by what the wrong bodies of its function hold.
@@ -30,6 +32,7 @@ from functions import module_of, names_in, pieces
 
 WORDS = ("name", "function", "old", "new", "must-fail", "case", "given", "holds", "told", "breaks")
 DEFAULT_CASE = ("fn NAME(alloc: std::alloc::Global) -> Option<bool> {\nHOLDS\n    None\n}", "NAME(rt.alloc())")
+STRUCT = re.compile(r"(?ms)^(?:pub(?:\(\w+\))? )?struct \w[^;{]*\{\n.*?^\}\n")
 SECTION = re.compile(r"(?m)^== (items|case|call) (\S+)\n")
 
 
@@ -64,7 +67,7 @@ class Edit:
         one = lambda word: (said(word) or [""])[0]
         self.name, self.function, self.case, self.told = one("name"), one("function"), one("case"), one("told")
         self.given, self.holds, self.must_fail = said("given"), said("holds"), one("must-fail")
-        self.pairs, self.text, self.bodies = [*zip(said("old"), said("new"))], paragraph, {}
+        self.pairs, self.text, self.bodies, self.whole = [*zip(said("old"), said("new"))], paragraph, {}, ""
         if odd := [key for key, _, _ in lines if key.removesuffix(":") not in WORDS]:
             self.fault = f"'{odd[0]}' is no word of an edit"
         elif len(said("old")) != len(said("new")) or not self.name:
@@ -97,8 +100,10 @@ class Edit:
         for old, new in self.pairs:
             edited = replaced(edited, old, new)
         before, after = pieces(source), pieces(edited)
-        if len(before) != len(after) or before[::2] != after[::2]:
+        if len(before) != len(after) or STRUCT.sub("", "".join(before[::2])) != STRUCT.sub("", "".join(after[::2])):
             raise BadEdit("it changes something outside of functions")
+        if before[::2] != after[::2]:
+            self.whole = edited
         for at in range(1, len(before), 2):
             (head, body), (new_head, new_body) = head_and_body(before[at]), head_and_body(after[at])
             if head != new_head:

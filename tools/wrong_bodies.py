@@ -42,10 +42,15 @@ SWITCH = """
 unsafe extern "C" {
     safe fn wrong_body_begin(number: u32);
     safe fn wrong_body_is(number: u32) -> bool;
+    safe fn wrong_body_refuse(is_refused: bool);
 }
 
 pub fn is_tried(number: u32) -> bool {
     wrong_body_is(number)
+}
+
+pub fn refuse_memory(is_refused: bool) {
+    wrong_body_refuse(is_refused)
 }
 
 #[cfg(test)]
@@ -53,10 +58,38 @@ pub fn try_body(number: u32) {
     wrong_body_begin(number)
 }
 """
+# In proofs memory may be refused at any time.
+MEMORY = "\npub fn refuse_memory(_is_refused: bool) {}\n"
 SWITCH_IN_C = """#include <stdint.h>
+#include <stdlib.h>
+#include <sys/resource.h>
 static uint32_t tried;
+static void **held;
 void wrong_body_begin(uint32_t number) { tried = number; }
 _Bool wrong_body_is(uint32_t number) { return tried == number; }
+/* lets the stack grow as far as a test needs it */
+static void touch_stack(void) {
+  volatile char room[1 << 20];
+  for (size_t at = 0; at < sizeof room; at += 4096) room[at] = 0;
+}
+static void hold(size_t size) {
+  for (void **block; (block = malloc(size)); held = block) *block = held;
+}
+/* Lets the process map no more memory, and takes all that is free; or gives it back. */
+void wrong_body_refuse(_Bool is_refused) {
+  static struct rlimit usual;
+  touch_stack();
+  if (is_refused) getrlimit(RLIMIT_AS, &usual);
+  struct rlimit none = {0, usual.rlim_max};
+  setrlimit(RLIMIT_AS, is_refused ? &none : &usual);
+  for (size_t size = 1 << 20; is_refused && size > 4096; size /= 2) hold(size);
+  for (size_t size = 4096; is_refused && size >= 16; size -= 16) hold(size);
+  while (!is_refused && held) {
+    void **block = held;
+    held = *block;
+    free(block);
+  }
+}
 """
 TEST = """
 #[cfg(test)]
@@ -154,6 +187,7 @@ def checked(crate, edits, items, cases, below):
     """What a check of the witnesses of these edits says, and the errors in their text, by edit."""
     with tempfile.TemporaryDirectory(prefix="wrong-bodies-") as room:
         source = Source(copy_of(crate, below, pathlib.Path(room)))
+        source.add(root_of(source), MEMORY)
         for file, text in items.items():
             source.add(file, text)
         asserted = lambda parts: [f"let holds = {part}; prove!(holds);" for part in parts]
@@ -199,13 +233,24 @@ def with_bodies(source, file, line, function, bodies):
 
 def tried(crate, edits, rights, items, cases, below):
     """What a program says that runs the `holds` of each edit, of the functions as they are and of the edit, and of each right body:
-    a word for each (edit, body), or why there is none."""
+    a word for each (edit, body), or why there is none. An edit that changes a struct has a program of its own."""
+    words, faults = tried_together(crate, edits, rights, items, cases, below)
+    for edit in [it for it in edits if it.whole and it not in faults]:
+        more, why = tried_together(crate, [edit], [], items, cases, below, edit.whole)
+        words.update({(edit, edit): word for word in more.values()})
+        faults.update(why)
+    return words, faults
+
+
+def tried_together(crate, edits, rights, items, cases, below, whole=""):
+    """The words of one program, and what couldn't be tried. With `whole`, that is the file of the one edit."""
     edits, rights, faults = [*edits], [*rights], {}
     for number, edit in enumerate([*edits, *rights], 1):
         edit.number = number
     while edits:
         with tempfile.TemporaryDirectory(prefix="wrong-bodies-") as room:
             source = Source(copy_of(crate, below, pathlib.Path(room)))
+            source.texts.update({edits[0].file: whole} if whole else {})
             tests = write_program(source, edits, rights, items, cases)
             said = run("rt", "try", "--test", "--steps", "1", "--seconds", "20", folder=source.folder, RT_ALLOW_C="1")
         words = results(said)
@@ -220,10 +265,14 @@ def tried(crate, edits, rights, items, cases, below):
     return {}, faults
 
 
+def root_of(source):
+    return "src/lib.rt" if (source.folder / "src/lib.rt").exists() else "src/main.rt"
+
+
 def write_program(source, edits, rights, items, cases):
     """Writes the program of `tried`. Gives what each module of a test tries."""
-    root = "src/lib.rt" if (source.folder / "src/lib.rt").exists() else "src/main.rt"
-    switched(source, [it for it in [*edits, *rights] if not it.is_row])
+    root, switches = root_of(source), lambda it: not it.is_row and not it.whole
+    switched(source, [it for it in [*edits, *rights] if switches(it)])
     source.add(root, SWITCH)
     (source.folder / "c").mkdir()
     (source.folder / "c" / "wrong_body.c").write_text(SWITCH_IN_C)
@@ -234,7 +283,7 @@ def write_program(source, edits, rights, items, cases):
         returned = lambda parts: [f"return Some({' && '.join(f'({it})' for it in parts)});"]
         source.add(edit.file, edit.witness(returned, cases), edit)
         others = [it for it in rights if it.file == edit.file and it.function == edit.function]
-        for number, body in [(0, None), *([(edit.number, edit)] if not edit.is_row else []), *((it.number, it) for it in others)]:
+        for number, body in [(0, None), *([(edit.number, edit)] if switches(edit) else []), *((it.number, it) for it in others)]:
             module = f"try_{number}_of_{edit.name}"
             call = cases[edit.case][1].replace("NAME", f"witness_{edit.name}")
             source.add(edit.file, TEST.format(module=module, number=number, call=call), edit)
