@@ -368,16 +368,22 @@ def main(words):
     kept = Kept(ROOT, below, not given.from_nothing)
     build(dict.fromkeys(low for crate in found for low in below[crate]), below)
     verdicts = [(it, (False, why)) for it, why in bad]
+    show(verdicts, given.reasons)
     with ThreadPoolExecutor(at_once()) as pool:
         judged = lambda crate: kept.or_made(crate, found[crate], lambda *those: judge(crate, *those, below[crate], kept))
         for result in pool.map(judged, found):
+            show(result.items(), given.reasons)
             verdicts += result.items()
-    for it, (is_passed, why) in verdicts:
-        if given.reasons or not is_passed or why.startswith("told"):
-            print(f"{it}: {why}")
     passed = sum(is_passed for _, (is_passed, _) in verdicts)
     print(f"{passed} passed, {len(verdicts) - passed} failed")
     return 1 if passed < len(verdicts) or not passed else 0
+
+
+def show(verdicts, all_of_them):
+    """Prints verdicts: those of what failed or has no EXPR, or all."""
+    for it, (is_passed, why) in verdicts:
+        if all_of_them or not is_passed or why.startswith("told"):
+            print(f"{it}: {why}", flush=True)
 
 
 if __name__ == "__main__":
