@@ -3,8 +3,8 @@ use Rattle.std.specs.Prelude.{◌≡◌, ℕ, ◌+◌, ◌-◌, ◌^◌, ◌≤�
 use Rattle.std.specs.Borrow.{Fml, LendsIf, MutBor, RattleType}
 use Rattle.std.specs.List.{filter, list_any}
 use Rattle.std.specs.Option.{is_some}
-use Rattle.std.specs.Map.{lookup, set_value}
-use Rattle.lru.specs.LruCache.{lru_cache, put_entries}
+use Rattle.std.specs.Map.{lookup, remove_entry, set_value}
+use Rattle.lru.specs.LruCache.{LruCache, lru_cache, promoted, put_entries}
 use Rattle.gopher_server.specs.declared.decisions.held.Held.{Held}
 use Rattle.gopher_server.specs.contracts.decisions.held.Held.{the_row}
 use Rattle.gopher_serve.specs.declared.advancing.Progress.{Progress}
@@ -78,10 +78,22 @@ enlarged held key = added (held_entries held) key (large_of held)
 abbrev pub queue_after : Bool → ℕ → List ℕ → List ℕ
 queue_after goes_on key keys = if goes_on then keys else without_key key keys
 
+-- the connections with these entries in place of their own; there may be as many as before
+abbrev pub with_entries : {T : Type 0} → Held T → List (ℕ × T) → LruCache ℕ T
+with_entries held entries = lru_cache entries held.connections.cap
+
+-- the connections with the one at a key first, if there is one
+abbrev pub with_first : {T : Type 0} → Held T → ℕ → LruCache ℕ T
+with_first held key = with_entries held (promoted (nat_eq key) (held_entries held))
+
+-- the connections without the one at a key
+abbrev pub without : {T : Type 0} → Held T → ℕ → LruCache ℕ T
+without held key = with_entries held (remove_entry (nat_eq key) (held_entries held))
+
 -- a connection was taken in at the next key, and is the most recently used
 abbrev pub PutsHeld : {T : Type 0} → Held T → Held T → T → Type 0
 PutsHeld old new taken =
-    held_entries new ≡ put_entries nat_eq old.connections old.next_key taken
+    new.connections ≡ with_entries old (put_entries nat_eq old.connections old.next_key taken)
 
 -- the deadline of a key was set, 16 s later and after all others
 abbrev pub Lingers : {T : Type 0} → Held T → Held T → ℕ → ℕ → Type 0

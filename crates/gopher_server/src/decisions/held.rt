@@ -1,11 +1,10 @@
 //! The connections that a server thread holds, and what each is doing.
 
-ghost use Rattle.std.specs.Prelude.{◌≡◌, ◌+◌, ◌-◌, ◌^◌, [], length, min, nat_eq, nat_lt, Some, IfOk, IfErr, OnOk, OnErr};
+ghost use Rattle.std.specs.Prelude.{◌≡◌, ◌+◌, ◌-◌, ◌^◌, [], length, min, nat_lt, Some, IfOk, IfErr, OnOk, OnErr};
 ghost use Rattle.std.specs.Option.{option_map, option_copied_mut};
 ghost use Rattle.std.specs.Borrow.{sem};
-ghost use Rattle.std.specs.Map.{remove_entry};
-ghost use Rattle.lru.specs.LruCache.{last_entry, promoted};
-ghost use Rattle.gopher_server.specs.Held.{IsSound, LendsHeld, Lingers, PutsHeld, added, connection, deadlines, due_at, enlarged, foremost, held_entries, is_behind, large_of, queue, queue_after, queued, step_at, without_key};
+ghost use Rattle.lru.specs.LruCache.{last_entry, lru_cache};
+ghost use Rattle.gopher_server.specs.Held.{IsSound, LendsHeld, Lingers, PutsHeld, added, connection, deadlines, due_at, enlarged, foremost, held_entries, is_behind, large_of, queue, queue_after, queued, step_at, with_first, without, without_key};
 
 use gopher_serve::Progress;
 use lru::LruCache;
@@ -24,8 +23,9 @@ const MAX_LARGE: usize = 16;
 /// client. Keys are numbers from 0, and no key is used twice.
 ///
 /// Contracts see the pairs of keys and connections as `held_entries`, the most recently used first,
-/// the keys of those that search as `queue`, the next one first, and the keys of those that have a
-/// larger queue in the system as `large_of`.
+/// or with the most that there may be, which is any number, as `connections`. They see the keys of
+/// those that search as `queue`, the next one first, and the keys of those that have a larger queue
+/// in the system as `large_of`.
 #[derive(Drop)]
 pub struct Held<T: Drop> {
     connections: LruCache<usize, T>,
@@ -61,7 +61,8 @@ fn remove_key(keys: &mut VecDeque<usize>, key: usize)
 impl<T: Drop> Held<T> {
     /// Makes an empty collection.
     pub fn new(alloc: Global) -> Result<Held<T>, AllocError>
-        ensures none { IfOk result (λ none. held_entries none ≡ []) }
+        ensures none { IfOk result (λ none. none.connections ≡ lru_cache [] (2 ^ 64 - 1)) }
+        ensures next { IfOk result (λ none. none.next_key ≡ 0) }
         ensures queue { IfOk result (λ none. queue none ≡ []) }
         ensures large { IfOk result (λ none. large_of none ≡ []) }
         ensures deadlines { IfOk result (λ none. deadlines none ≡ []) }
@@ -127,7 +128,7 @@ impl<T: Drop> Held<T> {
 
     /// Makes the connection at a key the most recently used.
     pub fn touch(&mut self, key: usize)
-        ensures first { held_entries self.new ≡ promoted (nat_eq key) (held_entries self.old) }
+        ensures first { self.new.connections ≡ with_first self.old key }
         ensures next { self.new.next_key ≡ self.old.next_key }
         ensures queue { queue self.new ≡ queue self.old }
         ensures large { large_of self.new ≡ large_of self.old }
@@ -140,7 +141,7 @@ impl<T: Drop> Held<T> {
     /// there is none.
     pub fn end(&mut self, key: usize) -> Option<T>
         ensures taken { result ≡ connection self.old key }
-        ensures others { held_entries self.new ≡ remove_entry (nat_eq key) (held_entries self.old) }
+        ensures others { self.new.connections ≡ without self.old key }
         ensures next { self.new.next_key ≡ self.old.next_key }
         ensures queue { queue self.new ≡ without_key key (queue self.old) }
         ensures large { large_of self.new ≡ without_key key (large_of self.old) }
@@ -175,7 +176,7 @@ impl<T: Drop> Held<T> {
     pub fn queue_search(&mut self, key: usize) -> Result<(), AllocError>
         ensures queue { OnOk result (queue self.new ≡ queued self.old key) }
         ensures refused { OnErr result (queue self.new ≡ queue self.old) }
-        ensures others { held_entries self.new ≡ held_entries self.old }
+        ensures others { self.new.connections ≡ self.old.connections }
         ensures large { large_of self.new ≡ large_of self.old }
         ensures sound { IsSound self.old → IsSound self.new }
     {
@@ -200,7 +201,7 @@ impl<T: Drop> Held<T> {
     /// Ends a turn of the search of the connection at a key, which is then the most recently used.
     /// If the search goes on, it keeps its place in the queue, otherwise it leaves the queue.
     pub fn end_turn(&mut self, key: usize, goes_on: bool)
-        ensures first { held_entries self.new ≡ promoted (nat_eq key) (held_entries self.old) }
+        ensures first { self.new.connections ≡ with_first self.old key }
         ensures queue { queue self.new ≡ queue_after goes_on key (queue self.old) }
         ensures large { large_of self.new ≡ large_of self.old }
         ensures sound { IsSound self.old → IsSound self.new }
@@ -217,7 +218,7 @@ impl<T: Drop> Held<T> {
     /// one clock.
     pub fn linger(&mut self, key: usize, now: u64) -> Result<(), AllocError>
         ensures set { OnOk result (Lingers self.old self.new key now) }
-        ensures others { held_entries self.new ≡ held_entries self.old }
+        ensures others { self.new.connections ≡ self.old.connections }
         ensures queue { queue self.new ≡ queue self.old }
         ensures large { large_of self.new ≡ large_of self.old }
     {
@@ -235,7 +236,7 @@ impl<T: Drop> Held<T> {
     /// Removes the first deadline and returns its key, if the deadline isn't after the time `now`.
     pub fn take_due(&mut self, now: u64) -> Option<usize>
         ensures due { (result, deadlines self.new) ≡ due_at now (deadlines self.old) }
-        ensures others { held_entries self.new ≡ held_entries self.old }
+        ensures others { self.new.connections ≡ self.old.connections }
         ensures queue { queue self.new ≡ queue self.old }
         ensures large { large_of self.new ≡ large_of self.old }
     {
@@ -257,7 +258,7 @@ impl<T: Drop> Held<T> {
     pub fn mark_large(&mut self, key: usize) -> Result<(), AllocError>
         ensures large { OnOk result (large_of self.new ≡ enlarged self.old key) }
         ensures refused { OnErr result (large_of self.new ≡ large_of self.old) }
-        ensures others { held_entries self.new ≡ held_entries self.old }
+        ensures others { self.new.connections ≡ self.old.connections }
         ensures queue { queue self.new ≡ queue self.old }
         ensures sound { IsSound self.old → IsSound self.new }
     {
