@@ -22,8 +22,25 @@ pub struct Host<'a> {
     pub late: u64,
     /// The reply of all other places, if they can be read.
     pub rest: Option<&'a [u8]>,
+    /// Whether a fetch of `/a` is held until another place was answered.
+    pub is_held: bool,
     /// How often `/a` was fetched.
     pub fetched: AtomicU64,
+    /// How often other places were.
+    pub answered: AtomicU64,
+}
+
+// How often a fetch that is held looks whether it may go on.
+const TURNS: u32 = 100_000_000;
+
+// Waits until something was answered. Returns whether it was.
+fn is_answered(answered: &AtomicU64) -> bool {
+    for _turn in 0..TURNS {
+        if answered.load(Ordering::SeqCst) > 0 {
+            return true;
+        }
+    }
+    false
 }
 
 impl<'a> Host<'a> {
@@ -34,21 +51,30 @@ impl<'a> Host<'a> {
             first: MOON,
             late: 0,
             rest: Some(MOON),
+            is_held: false,
             fetched: AtomicU64::new(0),
+            answered: AtomicU64::new(0),
         }
+    }
+
+    // The reply of `/a`, or why there is none.
+    fn first_reply(&self) -> Result<&'a [u8], Why> {
+        let is_late = self.fetched.fetch_add(1, Ordering::SeqCst) < self.late;
+        if is_late || self.is_held && !is_answered(&self.answered) {
+            return Err(Why::Read);
+        }
+        Ok(self.first)
     }
 
     // The reply of a selector, or why there is none.
     fn reply(&self, selector: &[u8]) -> Result<&'a [u8], Why> {
         match selector {
             b"" => Ok(self.root),
-            b"/a" => {
-                if self.fetched.fetch_add(1, Ordering::SeqCst) < self.late {
-                    return Err(Why::Read);
-                }
-                Ok(self.first)
+            b"/a" => self.first_reply(),
+            _ => {
+                let _before = self.answered.fetch_add(1, Ordering::SeqCst);
+                self.rest.ok_or(Why::Read)
             }
-            _ => self.rest.ok_or(Why::Read),
         }
     }
 }

@@ -1,7 +1,7 @@
 //! Menus, request lines and places as they are read, made, written and ordered. What other bytes are
 //! read as is in proofs/WorkedRows.antt.
 
-use gopher_item::{Entry, MenuLine, Place, lines, read_menu, read_request, write_menu};
+use gopher_item::{Entry, Home, MenuLine, Place, lines, read_menu, read_request, write_menu};
 use std::alloc::Global;
 use std::cmp::Ordering;
 use std::slice;
@@ -167,6 +167,34 @@ fn request_lines_are_read(rt: HostRuntime) {
     assert!(rt; is_asked(rt.alloc(), &line, Ok((b"/search", Some(&line[8..])))));
     let line = search_of(rt.alloc(), 1_017).expect(&rt, "memory");
     assert!(rt; is_asked(rt.alloc(), &line, Err(7)));
+}
+
+// The type, selector, host and port of a place, and its host, or the number of its fault.
+type New<'a> = (u8, &'a [u8], &'a [u8], u16, Result<&'a [u8], u8>);
+
+const PLACES: &[New] = &[
+    (b'1', b"/x", b"Gopher.Example", 70, Ok(b"gopher.example")),
+    (b'7', &[b's'; 256], b"h", 0, Err(1)),
+    (b'0', b"", b"a b", 70, Err(3)),
+    (b'0', b"", b"h", 0, Err(4)),
+    (b'1', &[b's'; 256], b"a b", 0, Err(2)),
+];
+
+fn is_place(alloc: Global, new: New) -> bool {
+    let (kind, selector, host, port, wanted) = new;
+    match Place::new(alloc, kind, selector, host, port) {
+        Ok(place) => wanted == Ok(place.host()),
+        Err(fault) => wanted == Err(fault.code()),
+    }
+}
+
+#[test]
+fn places_are_made_or_refused(rt: HostRuntime) {
+    for new in PLACES {
+        assert!(rt; is_place(rt.alloc(), *new));
+    }
+    let home = Home::new(rt.alloc(), b"", 7070);
+    assert!(rt; home.err().expect(&rt, "a home without a host").code() == 3);
 }
 
 // The type, selector, host and port of a place.

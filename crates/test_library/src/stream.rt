@@ -94,3 +94,38 @@ impl Write for Stream<'_> {
         }
     }
 }
+
+/// Gives the letter `a` a number of times, one a read, each after an interrupted read.
+#[derive(Drop)]
+pub struct Letters {
+    left: u32,
+    was_interrupted: bool,
+}
+
+impl Letters {
+    /// One that gives this number of letters.
+    pub fn new(left: u32) -> Letters {
+        Letters {
+            left,
+            was_interrupted: false,
+        }
+    }
+}
+
+impl Read for Letters {
+    fn read(&mut self, buf: &mut [u8]) -> io::Result<usize> {
+        let Some(first) = buf.first_mut() else {
+            return Ok(0);
+        };
+        if self.left == 0 {
+            return Ok(0);
+        }
+        self.was_interrupted = !self.was_interrupted;
+        if self.was_interrupted {
+            return Err(ErrorKind::Interrupted.into());
+        }
+        *first = b'a';
+        self.left -= 1;
+        Ok(1)
+    }
+}

@@ -2,7 +2,7 @@
 //! again, where each ends, and with which fault.
 ghost use Rattle.std.specs.Prelude.{◌≤◌};
 
-use crate::stream::{Ending, Stream};
+use crate::stream::{Ending, Letters, Stream};
 use gopher_text::{Watched, read_line_from, read_reply, send};
 use std::alloc::Global;
 use std::io::Write;
@@ -95,40 +95,37 @@ fn reply_of(alloc: Global, reader: Stream, limit: usize) -> (Result<(), u8>, usi
     (end, reader.into_inner().given.len())
 }
 
-// How the reply ends that has this number of bytes, at most a mebibyte; `size` bytes are read at a
-// time, after an interrupted read if `interruptions` is 1.
-fn mebibyte_of(
-    alloc: Global,
-    count: usize,
-    size: usize,
-    interruptions: u32,
-) -> Option<(Result<(), u8>, usize)> {
-    let bytes = vec![in alloc; b'a'; count].ok()?;
-    let reader = Stream {
-        size,
-        ..slow(&bytes, interruptions, Ending::Ends)
-    };
-    Some(reply_of(alloc, reader, 1_048_576))
+// The length of the reply that has this number of letters, one a read after an interrupted read; or
+// the number of its fault, 0 for other bytes.
+fn slow_reply(alloc: Global, count: u32) -> Option<Result<usize, u8>> {
+    let letters = vec![in alloc; b'a'; count as usize].ok()?;
+    match read_reply(alloc, &mut Watched::new(Letters::new(count)), 1_048_576) {
+        Ok(reply) if reply.as_slice() == letters.as_slice() => Some(Ok(reply.len())),
+        Ok(_other) => Some(Err(0)),
+        Err(fault) => Some(Err(fault.code())),
+    }
 }
 
 #[test]
 fn a_reply_is_read_with_2097151_reads(rt: HostRuntime) {
-    let end = mebibyte_of(rt.alloc(), 1_048_575, 1, 1);
-    assert!(rt; end == Some((Ok(()), 0)));
+    assert!(rt; slow_reply(rt.alloc(), 1_048_575) == Some(Ok(1_048_575)));
 }
 
 #[test]
 fn a_reply_is_not_read_with_2097153_reads(rt: HostRuntime) {
-    let end = mebibyte_of(rt.alloc(), 1_048_576, 1, 1);
-    assert!(rt; end == Some((Err(11), 0)));
+    assert!(rt; slow_reply(rt.alloc(), 1_048_576) == Some(Err(11)));
 }
 
 #[test]
 fn a_reply_has_at_most_a_mebibyte(rt: HostRuntime) {
-    let end = mebibyte_of(rt.alloc(), 1_048_576, 65_536, 0);
-    assert!(rt; end == Some((Ok(()), 0)));
-    let end = mebibyte_of(rt.alloc(), 1_048_580, 65_536, 0);
-    assert!(rt; end == Some((Err(12), 3)));
+    let bytes = vec![in rt.alloc(); b'a'; 1_048_580].expect(&rt, "memory");
+    for (count, wanted) in [(1_048_576usize, (Ok(()), 0)), (1_048_580, (Err(12), 3))] {
+        let reader = Stream {
+            size: 65_536,
+            ..slow(&bytes[..count], 0, Ending::Ends)
+        };
+        assert!(rt; reply_of(rt.alloc(), reader, 1_048_576) == wanted);
+    }
 }
 
 // What a reader gives, how many reads are interrupted before each byte, how it goes on, the limit, and

@@ -49,6 +49,7 @@ struct Row {
     first: &'static [u8],
     rest: Option<&'static [u8]>,
     late: u64,
+    is_held: bool,
     tries: u32,
     query: &'static [u8],
     letters: &'static [u8],
@@ -64,6 +65,7 @@ const FILES: Row = Row {
     first: MOON,
     rest: Some(MOON),
     late: 0,
+    is_held: false,
     tries: 1,
     query: b"moon",
     letters: b"ab",
@@ -83,6 +85,12 @@ const TWICE: Row = Row {
 const UNREAD: Row = Row {
     late: 1,
     letters: b"b",
+    ..FILES
+};
+
+// The fetch of `/a` is held until that of `/b` was answered: it takes two workers.
+const HELD: Row = Row {
+    is_held: true,
     ..FILES
 };
 
@@ -167,7 +175,9 @@ fn crawled<C: Crew + Send + Sync, R: Threads + Wait + Abort + AllocGlobal + Sync
         first: row.first,
         late: row.late,
         rest: row.rest,
+        is_held: row.is_held,
         fetched: AtomicU64::new(0),
+        answered: AtomicU64::new(0),
     };
     let begun = crawl(rt.alloc(), b"h", 10, row.tries).expect(rt, "no crawl");
     let (desk, _passes, shares) = opened::<C, R>(rt, false, blank, begun, workers);
@@ -185,6 +195,12 @@ fn crawls_end_the_same_by_one_worker_and_by_two(rt: HostRuntime) {
             has_ended(&rt, row, &closed);
         }
     }
+}
+
+#[test]
+fn two_workers_fetch_at_once(rt: HostRuntime) {
+    let closed = crawled::<Brand, _>(&rt, Blank::new(), &HELD, 2);
+    has_ended(&rt, &HELD, &closed);
 }
 
 // A pass finds both files.
