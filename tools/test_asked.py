@@ -13,7 +13,7 @@ CRATES = {
     if colon and not name.startswith("#")
 }
 # the fewest rows of each table: one that lost its rows isn't compared with anything
-FEWEST = {"Libraries": 7, "Worked rows": 60, "Public calls": 90, "Wrong bodies": 0}
+FEWEST = {"Libraries": 7, "Worked rows": 60, "Public calls": 90, "Wrong bodies": 30}
 
 
 def rows(title):
