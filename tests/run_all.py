@@ -53,6 +53,7 @@ class Test:
 
 TESTS = (
     Test("tools/check_links.py", asks=False, is_quick=True),
+    Test("tools/clauses.py", asks=False, is_quick=True),
     Test("tools/test_asked.py", asks=False, is_quick=True),
     Test("tools/test_audit.py", asks=False, is_quick=True),
     Test("tools/test_check_links.py", asks=False, is_quick=True),
