@@ -154,7 +154,7 @@ fn is_asked(alloc: Global, line: &[u8], wanted: Result<(&[u8], Option<&[u8]>), u
 // A line of `/search`, TAB and this number of bytes.
 fn search_of(alloc: Global, count: usize) -> Option<Vec<u8>> {
     let mut line = Vec::from_slice(alloc, b"/search\t").ok()?;
-    line.resize(8 + count, b'x').ok()?;
+    line.resize(count.saturating_add(8), b'x').ok()?;
     Some(line)
 }
 
