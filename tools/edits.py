@@ -15,7 +15,8 @@ crates/CRATE/wrong-bodies/FILE.edit has the wrong bodies of src/FILE.rt, one par
 - `holds` is what every body that meets the contract makes true. Several such lines must hold together. `given` lines come before it:
   statements, or the heads of `if`s inside of which it stands. They see what the file sees, and `alloc: Global`. `case: NAME` takes
   other arguments, from crates/CRATE/wrong-bodies/setup.txt.
-- `told` says in place of `holds` why none can be had. `breaks` is for the reader: the clause that the body breaks.
+- `told` says in place of `holds` why none can be had. `open` says what is missing, beside it: the edit isn't judged, and counts for
+  nothing. `breaks` is for the reader: the clause that the body breaks.
 - A paragraph without an edit is a worked row: its `holds` is proved and run.
 - `crate::refuse_memory(true);` in a `given` refuses all memory from there on, until `crate::refuse_memory(false);`.
 - An edit may add fields to a struct. Then it has a program of its own.
@@ -30,7 +31,7 @@ import re
 
 from functions import module_of, names_in, pieces
 
-WORDS = ("name", "function", "old", "new", "must-fail", "case", "given", "holds", "told", "breaks")
+WORDS = ("name", "function", "old", "new", "must-fail", "case", "given", "holds", "told", "open", "breaks")
 DEFAULT_CASE = ("fn NAME(alloc: std::alloc::Global) -> Option<bool> {\nHOLDS\n    None\n}", "NAME(rt.alloc())")
 STRUCT = re.compile(r"(?ms)^(?:pub(?:\(\w+\))? )?struct \w[^;{]*\{\n.*?^\}\n")
 SECTION = re.compile(r"(?m)^== (items|case|call) (\S+)\n")
@@ -66,7 +67,7 @@ class Edit:
         said = lambda word: [text for key, _, text in lines if key.removesuffix(":") == word]
         one = lambda word: (said(word) or [""])[0]
         self.name, self.function, self.case, self.told = one("name"), one("function"), one("case"), one("told")
-        self.given, self.holds, self.must_fail = said("given"), said("holds"), one("must-fail")
+        self.given, self.holds, self.must_fail, self.open = said("given"), said("holds"), one("must-fail"), one("open")
         self.pairs, self.text, self.bodies, self.whole = [*zip(said("old"), said("new"))], paragraph, {}, ""
         if odd := [key for key, _, _ in lines if key.removesuffix(":") not in WORDS]:
             self.fault = f"'{odd[0]}' is no word of an edit"

@@ -95,8 +95,8 @@ class Kept:
         known, before = {str(it): it for part in those for it in part}, self.sum(crate)
         kept, names = self.read(crate), sum_of(before, sorted(known))
         if kept["sum"] == names:
-            return {known[name]: (True, why) for name, why in kept["verdicts"].items()}
+            return {known[name]: tuple(verdict) for name, verdict in kept["verdicts"].items()}
         verdicts = make(*those)
-        if all(is_passed for is_passed, _ in verdicts.values()) and self.sum(crate) == before:
-            self.write(crate, sum=names, verdicts={str(it): why for it, (_, why) in verdicts.items()})
+        if all(is_passed is not False for is_passed, _ in verdicts.values()) and self.sum(crate) == before:
+            self.write(crate, sum=names, verdicts={str(it): verdict for it, verdict in verdicts.items()})
         return verdicts

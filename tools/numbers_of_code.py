@@ -42,7 +42,7 @@ def lines_of(text):
 
 def wrong_bodies():
     """How many edits the judge excludes: those that have a `holds`."""
-    judged = lambda crate: [it for it in edits.read_edits(ROOT, crate)[0] if it.holds and not it.is_row]
+    judged = lambda crate: [it for it in edits.read_edits(ROOT, crate)[0] if it.holds and not it.open and not it.is_row]
     return sum(len(judged(crate.name)) for crate in crates())
 
 

@@ -12,8 +12,9 @@ excluded if both of these say so:
 
 So the wrong body doesn't meet the contract, whatever the proof of the function looks like. The prover doesn't see wrong bodies: a
 proof that fails could be a proof that no longer fits. Each crate takes one check, of a copy with all witnesses, and one program,
-built without proofs, whose functions have all bodies and ask C which one is tried. Right bodies are built into it too: one that
-makes an EXPR of its function false fails. Worked rows are proved and run.
+built without proofs, whose functions have all bodies and ask C which one is tried. Functions that witnesses share are proved with
+them. Right bodies are built into the program too: one that makes an EXPR of its function false fails. Worked rows are proved and
+run. Edits that are open, because no proof was found yet, aren't judged and count for nothing.
 
 With --reasons each verdict is printed, else what failed and what is told in place of an EXPR. What passed is kept until something
 changes that it read; --from-nothing judges it all the same. Libraries below a crate are those that `rt ci` or `rt lib` left in out/,
@@ -30,7 +31,7 @@ import tempfile
 from concurrent.futures import ThreadPoolExecutor
 
 from edits import RightBody, head_and_body, read_edits, setup_of
-from functions import names_in, pieces
+from functions import module_of, pieces
 from kept import Kept
 from toolchain import is_up_to_date, words_of_check
 
@@ -38,6 +39,7 @@ ROOT = pathlib.Path(os.environ.get("ROOT") or pathlib.Path(__file__).resolve().p
 MEMORY_OF_A_CHECK = 5 << 30
 # What the check of a single function says beside its goals: what it calls isn't checked again.
 NO_GOAL = re.compile(r"^it calls |^it passes the block ")
+IMPL = re.compile(r"impl(?P<generics><(?:[^<>]|<[^<>]*>)*>)? (?:(?P<of_trait>.*) for )?(?P<of_type>\w+)")
 SWITCH = """
 unsafe extern "C" {
     safe fn wrong_body_begin(number: u32);
@@ -180,7 +182,24 @@ def unproved(crate, edits, items, cases, below):
     left = [edit for edit in edits if edit not in blamed]
     if blamed and left:
         return {**blamed, **unproved(crate, left, items, cases, below)}
-    return {**blamed, **{edit: why for edit in left if (why := lacking(crate, edit, said))}}
+    return {**blamed, **{edit: why for edit in left if (why := lacking(crate, edit.path(), said))}}
+
+
+def functions_of(items):
+    """The paths of the functions that witnesses share, as a check prints them: a trait's method has its type and its trait."""
+    found = []
+    for file, text in items.items():
+        owner = []
+        for line in text.splitlines():
+            if head := IMPL.match(line):
+                own = re.findall(r"[<,] *(\w+)", head["generics"] or "")
+                words = [word for word in re.findall(r"(?<![\w'])\w+(?!\w*::)", head["of_trait"] or "") if word not in own]
+                owner = [head["of_type"] + "".join(word[0].upper() + word[1:] for word in words)]
+            elif line == "}":
+                owner = []
+            elif name := re.match(r" *(?:pub(?:\(\w+\))? )?fn (\w+)", line):
+                found.append("::".join([*module_of(file), *owner, name[1]]))
+    return found
 
 
 def checked(crate, edits, items, cases, below):
@@ -194,13 +213,17 @@ def checked(crate, edits, items, cases, below):
         for edit in edits:
             source.add(edit.file, edit.witness(asserted, cases), edit)
         source.write()
-        said = run(*words_of_check(source.folder, [edit.path() for edit in edits]), folder=source.folder)
-        return said, source.blamed(said)
+        shared = functions_of(items)
+        said = run(*words_of_check(source.folder, [*shared, *(edit.path() for edit in edits)]), folder=source.folder)
+        blamed = source.blamed(said)
+        if lacks := [f"{path} isn't proved: {why}" for path in shared if (why := lacking(crate, path, said))]:
+            blamed = {**{edit: lacks[0] for edit in edits}, **blamed}
+        return said, blamed
 
 
-def lacking(crate, edit, said):
-    """What the witness of an edit lacks, as a check said; nothing if it is proved, but for what it calls."""
-    found = re.search(rf"(?m)^fn {crate}::{re.escape(edit.path())}: (proved|not proved|no proof: .*|could not tell.*)$", said)
+def lacking(crate, path, said):
+    """What a function lacks, as a check said; nothing if it is proved, but for what it calls."""
+    found = re.search(rf"(?m)^fn {crate}::{re.escape(path)}: (proved|not proved|no proof: .*|could not tell.*)$", said)
     if not found:
         return f"the check said nothing of it: {said[-1500:]}"
     goals = [it for it in found[1].removeprefix("no proof: ").split("; ") if not NO_GOAL.search(it)]
@@ -307,8 +330,10 @@ def judge(crate, edits, rights, below, kept):
     for edit in edits:
         if edit.case not in cases:
             edit.told, edit.holds = "", []
-    judged = [edit for edit in edits if edit.holds]
-    verdicts = {edit: (True, f"told: {edit.told}") if edit.told else (False, "BAD EDIT: no such case") for edit in edits if not edit.holds}
+    judged = [edit for edit in edits if edit.holds and not edit.open]
+    verdicts = {edit: (None, f"open: {edit.open}") for edit in edits if edit.open}
+    others = [edit for edit in edits if not edit.holds and not edit.open]
+    verdicts.update({edit: (True, f"told: {edit.told}") if edit.told else (False, "BAD EDIT: no such case") for edit in others})
     words, faults = tried(crate, judged, rights, items, cases, below)
     verdicts.update({edit: (False, why) for edit, why in faults.items()})
     left = [edit for edit in judged if edit not in faults]
@@ -374,15 +399,15 @@ def main(words):
         for result in pool.map(judged, found):
             show(result.items(), given.reasons)
             verdicts += result.items()
-    passed = sum(is_passed for _, (is_passed, _) in verdicts)
-    print(f"{passed} passed, {len(verdicts) - passed} failed")
-    return 1 if passed < len(verdicts) or not passed else 0
+    count = lambda which: sum(is_passed is which for _, (is_passed, _) in verdicts)
+    print(f"{count(None)} are open\n{count(True)} passed, {count(False)} failed")
+    return 1 if count(False) or not count(True) else 0
 
 
 def show(verdicts, all_of_them):
     """Prints verdicts: those of what failed or has no EXPR, or all."""
     for it, (is_passed, why) in verdicts:
-        if all_of_them or not is_passed or why.startswith("told"):
+        if all_of_them or not is_passed or why.startswith("told: "):
             print(f"{it}: {why}", flush=True)
 
 
