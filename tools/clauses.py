@@ -9,8 +9,8 @@ in crates/CRATE/wrong-bodies/unbroken.txt, on a line `FUNCTION CLAUSE: reason`. 
 that its src/lib.rt hands on: by name, by their type, or in a public module. If none of these has a clause, as in gopher_server,
 all that are `pub` count.
 
-Clauses with neither are printed, and fail; so do lines that name no clause. With --all the reasons are printed too. The last line is
-'N passed, M failed'.
+Clauses with neither are printed, and fail; so do lines that name no clause. With --all the reasons are printed too. The line before
+the last counts the clauses that only wrong bodies with a line `open:` break; the last line is 'N passed, M failed'.
 """
 import pathlib
 import re
@@ -59,28 +59,32 @@ def clauses_of(crate):
 
 
 def judged(crate):
-    """For a crate its clauses that nothing breaks, lines that name no clause, and the reasons that are told."""
+    """For a crate its clauses, those that nothing breaks, lines that name no clause, the reasons that are told, and what only open
+    wrong bodies break."""
     folder = ROOT / "crates" / crate / "wrong-bodies"
-    known, broken, reasons, told = clauses_of(crate), set(), {}, folder / "unbroken.txt"
+    known, broken, excluded, reasons, told = clauses_of(crate), set(), set(), {}, folder / "unbroken.txt"
     for path in folder.rglob("*.edit"):
-        judged_ones = [it for it in path.read_text().split("\n\n") if re.search(r"(?m)^holds: ", it)]
-        broken |= {(short(function), clause) for it in judged_ones for function, clause in BREAKS.findall(it)}
+        for entry in path.read_text().split("\n\n"):
+            named = {(short(function), clause) for function, clause in BREAKS.findall(entry)}
+            broken |= named if re.search(r"(?m)^holds: ", entry) else set()
+            excluded |= named if re.search(r"(?m)^holds: ", entry) and not re.search(r"(?m)^open: ", entry) else set()
     if told.is_file():
         reasons = {(short(function), clause): why for function, clause, why in LINE.findall(told.read_text())}
     lost = [f"{crate}: {function} {clause}: no public function has this clause" for function, clause in sorted((broken | reasons.keys()) - {*known})]
     lost += [f"{crate}: {function} {clause}: a wrong body breaks it, and unbroken.txt says why none can" for function, clause in sorted(broken & reasons.keys())]
-    return known, [it for it in known if it not in broken and it not in reasons], lost, reasons
+    return known, [it for it in known if it not in broken and it not in reasons], lost, reasons, broken - excluded
 
 
 def main(words):
     crates = [it for it in words if it != "--all"] or sorted(it.parent.parent.name for it in ROOT.glob("crates/gopher_*/src/lib.rt"))
-    passed = failed = 0
+    passed = failed = is_open = 0
     for crate in crates:
-        known, unbroken, lost, reasons = judged(crate)
+        known, unbroken, lost, reasons, rests = judged(crate)
         print(*[f"{crate}: {function} {clause}" for function, clause in unbroken], *lost, sep="\n", end="\n" if unbroken or lost else "")
         if "--all" in words:
             print(*[f"{crate}: {function} {clause}: {why}" for (function, clause), why in reasons.items()], sep="\n")
-        passed, failed = passed + len(known) - len(unbroken), failed + len(unbroken) + len(lost)
+        passed, failed, is_open = passed + len(known) - len(unbroken), failed + len(unbroken) + len(lost), is_open + len(rests)
+    print(f"{is_open} rest on wrong bodies that are open")
     print(f"{passed} passed, {failed} failed")
     return 1 if failed else 0
 

@@ -1,7 +1,7 @@
 //! Fetches over streams in memory, which end and fail at each place. Hosts that send in pieces are
 //! shown by tests/crawling.py.
 
-use crate::stream::{Ending, Stream};
+use crate::stream::{letters, Ending, Stream};
 use gopher_catalogue::Why;
 use gopher_hole::fetch_over;
 use gopher_item::Place;
@@ -42,7 +42,7 @@ fn fetches_end_with_a_reply_or_say_why(rt: HostRuntime) {
 
 #[test]
 fn a_fetch_gives_at_most_a_mebibyte(rt: HostRuntime) {
-    let bytes = vec![in rt.alloc(); b'a'; 1_048_577].expect(&rt, "memory");
+    let bytes = letters(rt.alloc(), 1_048_577).expect(&rt, "memory");
     for (from, wanted) in [(1usize, Ok(true)), (0, Err(Why::TooLong))] {
         let stream = Stream::new(&bytes[from..], REQUEST, 7, Ending::Ends);
         let whole = Stream {

@@ -112,6 +112,11 @@ impl Letters {
     }
 }
 
+/// A number of letters. It is a call because the prover would write out a number that it sees.
+pub fn letters(alloc: Global, count: usize) -> Option<Vec<u8>> {
+    vec![in alloc; b'a'; count].ok()
+}
+
 impl Read for Letters {
     fn read(&mut self, buf: &mut [u8]) -> io::Result<usize> {
         let Some(first) = buf.first_mut() else {
