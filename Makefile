@@ -26,8 +26,9 @@ build:
 	$(NEEDS_TOOLCHAIN)
 	cd crates/hole && rt run -- --version
 
-# The gate: every proof, the wrong bodies, and the program as a user runs it. What was proved or judged before and still stands is
-# kept. `rt ci` gives each processor one crate at a time, because two jobs for one crate load its libraries twice.
+# All that has to pass: the proofs, then the wrong bodies, then the tests of the program, the scripts and the documents. What was
+# proved or judged before and still stands is kept; the tests always run. RT_JOBS is how many crates are proved at once, each by one
+# job, since a second one would load the libraries again.
 .PHONY: test
 test:
 	$(NEEDS_TOOLCHAIN)

@@ -19,12 +19,12 @@ import threading
 from drawn.sizes import crawl_of_many_pages
 from models import model
 from models.site_model import Site
-from models.worked import COUNTS, DENY_RULE, FIRST_CRAWL, TWO_TRIES, WHOLE_SEARCH, searches
+from models.worked import COUNTS, DENY_RULE, FIRST_CRAWL, MATCHES, TWO_TRIES, WHOLE_SEARCH, searches
 from running.server import HOST, ROOT, Host, ask, crawling, free_port, run_test, seeded, until_true
 
 CRATE = ROOT / "crates" / "test_library"
 CALLS = CRATE / "out" / "test_library_tests"
-CALLED = "desks::refused_calls_succeed_when_made_again"
+CALLED = ("desks::refused_calls_succeed_when_made_again", "workers::a_crawl_ends_with_one_growth_refused")
 MOST_RUNS = 100_000
 # Each of these runs asks for more allocations than this.
 LEAST_RUNS = 20
@@ -84,7 +84,8 @@ def check_replays(test):
     """Scripts: what a refused run wrote is a beginning of what the model writes."""
     # seventy texts are merged; links are twice there, denied and foreign; words are there over 254 times
     scripts = {"a menu": b"\n".join([*crawl_of_many_pages(70, 1), searches(*QUESTIONS)])}
-    scripts |= {script[:20]: script for script in (FIRST_CRAWL[0], WHOLE_SEARCH[0], DENY_RULE, TWO_TRIES[0], COUNTS)}
+    worked = {"FIRST_CRAWL": FIRST_CRAWL[0], "WHOLE_SEARCH": WHOLE_SEARCH[0], "MATCHES": MATCHES[0]}
+    scripts |= {**worked, "DENY_RULE": DENY_RULE, "TWO_TRIES": TWO_TRIES[0], "COUNTS": COUNTS}
     for name, given in scripts.items():
         wanted = model.replayed(given)
         refuse_each(test, f"replay of {name}", [test.program, "replay"], given, wanted, tells(wanted[0], 90))
@@ -209,13 +210,13 @@ def check_workers(test):
 
 
 def check_calls(test):
-    """The test that makes each refused call again. It prints what says that it passed."""
+    """Tests of a desk with one growth refused, whose calls are made again, and of a crawl. They print what says that they passed."""
     if not os.access(CALLS, os.X_OK):
         subprocess.run(["rt", "test"], cwd=CRATE, check=True, stdout=subprocess.DEVNULL)
-    words = [CALLS, CALLED]
-    wanted = refused(test, words, b"", 0)[0]
-    test.expect(CALLED, (wanted[0] != b"", *wanted[1:]), (True, b"", 0))
-    refuse_each(test, CALLED, words, b"", wanted, never)
+    for called in CALLED:
+        wanted = refused(test, [CALLS, called], b"", 0)[0]
+        test.expect(called, (wanted[0] != b"", *wanted[1:]), (True, b"", 0))
+        refuse_each(test, called, [CALLS, called], b"", wanted, never)
 
 
 if __name__ == "__main__":

@@ -1,7 +1,8 @@
 #!/usr/bin/env python3
 """Wrong bodies as their files have them, and sources with them: what tools/wrong_bodies.py judges.
 
-crates/CRATE/wrong-bodies/FILE.edit has the wrong bodies of src/FILE.rt, one paragraph each, of lines 'word: text':
+crates/CRATE/wrong-bodies/FILE.edit has the wrong bodies of src/FILE.rt, one paragraph each, with empty lines between them, of lines
+'word: text':
 
     name: skips_empty_lines
     function: line::lines
@@ -10,13 +11,15 @@ crates/CRATE/wrong-bodies/FILE.edit has the wrong bodies of src/FILE.rt, one par
     given: if let Ok(found) = lines(alloc, b"a\\n\\nb")
     holds: found.len() == 3
 
-- `old` and `new` come in pairs, one line each. An old text occurs exactly once in the file, or is one whole line of it. In place of
-  them `must-fail: NAME` takes the edit of crates/CRATE/must-fail/NAME.edit, which `rt ci` tries too.
+- `function` is 'module::name' or 'module::Type::name'. `old` and `new` come in pairs, one line each. An old text occurs exactly once
+  in the file, or is one whole line of it. In place of them `must-fail: NAME` takes the edit of crates/CRATE/must-fail/NAME.edit,
+  which `rt ci` tries too.
 - `holds` is what every body that meets the contract makes true. Several such lines must hold together. `given` lines come before it:
-  statements, or the heads of `if`s inside of which it stands. They see what the file sees, and `alloc: Global`. `case: NAME` takes
-  other arguments, from crates/CRATE/wrong-bodies/setup.txt.
-- `told` says in place of `holds` why none can be had. `open` says what is missing, beside it: the edit isn't judged, and counts for
-  nothing. `breaks` is for the reader: the clause that the body breaks.
+  statements, or the heads of `if`s inside of which it stands. They see what the file sees, and `alloc: Global`. In
+  crates/CRATE/wrong-bodies/setup.txt stand what they share (under `== items FILE`), and for a line `case: NAME` other arguments: the
+  head of the function (`== case NAME`), and how the program calls it (`== call NAME`).
+- `told` says in place of `holds` why none can be had. `open` stands beside `holds` and says what is missing. Neither edit is judged,
+  nor counts. `breaks` is for the reader: the clause that the body breaks.
 - A paragraph without an edit is a worked row: its `holds` is proved and run.
 - `crate::refuse_memory(true);` in a `given` refuses all memory from there on, until `crate::refuse_memory(false);`.
 - An edit may add fields to a struct. Then it has a program of its own.

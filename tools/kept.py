@@ -41,10 +41,12 @@ def sum_of_kit():
 
 class Kept:
     """The verdicts of a repository's crates and the proofs of their witnesses, with the crates below each. A proof stands while its
-    witness, the sources and what witnesses of its crate share stay the same; the verdicts of a crate while nothing of it changes."""
+    witness, the sources and what witnesses of its crate share stay the same; the verdicts of a crate while nothing of it changes.
+    It is made before edits are read, so that their sums are those of what is judged, or older."""
 
     def __init__(self, root, below, is_read=True):
         self.root, self.below, self.is_read, self.kit = root, below, is_read, sum_of_kit()
+        self.at_first = {crate: self.sum(crate) for crate in below}
 
     def sum(self, crate, parts=("wrong-bodies", "right-bodies", "must-fail")):
         """The sum of the judge and the toolchain, of the sources of a crate and of those below it, and of these parts of it."""
@@ -66,17 +68,21 @@ class Kept:
         return {edit: sum_of(shared, edit.name, edit.file, edit.case, edit.given, edit.holds) for edit in edits}
 
     def read(self, crate):
+        """What is kept of a crate, and is to be used."""
+        return self.stored(crate) if self.is_read else NOTHING
+
+    def stored(self, crate):
         """What is kept of a crate."""
         with contextlib.suppress(*BROKEN):
             kept = json.loads((place() / f"{crate}.json").read_text())
-            return kept if self.is_read and kept.keys() == NOTHING.keys() else NOTHING
+            return kept if kept.keys() == NOTHING.keys() else NOTHING
         return NOTHING
 
     def write(self, crate, **parts):
         with contextlib.suppress(*BROKEN):
             place().mkdir(parents=True, exist_ok=True)
             new = place() / f".{crate}.{os.getpid()}"
-            new.write_text(json.dumps({**self.read(crate), **parts}))
+            new.write_text(json.dumps({**self.stored(crate), **parts}))
             new.replace(place() / f"{crate}.json")
 
     def proved(self, sums):
@@ -88,15 +94,15 @@ class Kept:
         """Keeps proofs, unless a source has changed since their sums were made."""
         if edits and self.sums_of_proofs(edits) == {edit: sums[edit] for edit in edits}:
             crate = edits[0].crate
-            self.write(crate, proofs={**self.read(crate)["proofs"], **{sums[edit]: edit.name for edit in edits}})
+            self.write(crate, proofs={**self.stored(crate)["proofs"], **{sums[edit]: edit.name for edit in edits}})
 
-    def or_made(self, crate, those, make):
-        """The verdicts on a crate's edits that are kept, or else those that are made, which are kept if all passed."""
-        known, before = {str(it): it for part in those for it in part}, self.sum(crate)
+    def or_made(self, crate, those, make, is_whole=True):
+        """The verdicts on a crate's edits that are kept, or else those that are made, which are kept if none failed and they are all."""
+        known, before = {str(it): it for part in those for it in part}, self.at_first[crate]
         kept, names = self.read(crate), sum_of(before, sorted(known))
         if kept["sum"] == names:
             return {known[name]: tuple(verdict) for name, verdict in kept["verdicts"].items()}
         verdicts = make(*those)
-        if all(is_passed is not False for is_passed, _ in verdicts.values()) and self.sum(crate) == before:
+        if is_whole and all(is_passed is not False for is_passed, _ in verdicts.values()) and self.sum(crate) == before:
             self.write(crate, sum=names, verdicts={str(it): verdict for it, verdict in verdicts.items()})
         return verdicts

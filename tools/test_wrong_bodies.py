@@ -69,10 +69,12 @@ WRONG = (
     (edit("nothing", "next", "    number + 1", "    number  + 1", "holds: next(1) == 2"), "BAD EDIT: it changes nothing"),
     (edit("without", "next", "    number + 1", "    number + 2"), "BAD EDIT: it has no 'holds' and doesn't tell why"),
     (edit("told", "next", "    number + 1", "    number + 2", "told: nobody waits for it"), "told: nobody waits for it"),
+    (edit("not_yet", "next", "    number + 1", "    number + 7", "open: no proof was found", "holds: next(2) == 3"), "open: no proof was found"),
     ("name: of_must_fail\nmust-fail: kit\nfunction: next\nholds: next(1) == 2\n", "excluded: of the edit it fails"),
     ("name: row\nholds: next(41) == 42\n", "a worked row"),
 )
 RIGHT = edit("turned", "next", "    number + 1", "    1 + number") + "\n" + edit("no_right", "next", "    number + 1", "    number + 9")
+RIGHT += "\n" + edit("of_twice", "twice", "number * 2", "2 * number")
 NOT_NAMED = "small/alone: BAD EDIT: no wrong body says what it breaks"
 
 
@@ -107,12 +109,17 @@ class Judge(unittest.TestCase):
         self.assertIn("\nsmall/turned: a right body\n", self.said)
         self.assertIn("\nsmall/no_right: A RIGHT BODY IS JUDGED WRONG by ", self.said)
 
+    def test_a_right_body_that_nothing_tries_is_open(self):
+        self.assertIn("\nsmall/of_twice: open: no wrong body of its function is excluded\n", self.said)
+
     def test_a_must_fail_edit_without_a_wrong_body_fails(self):
         self.assertIn(NOT_NAMED, self.said)
 
     def test_all_are_counted(self):
-        passed = sum(wanted.startswith(("excluded", "told", "a worked")) for _, wanted in WRONG) + 1
-        self.assertEqual(self.said.splitlines()[-1], f"{passed} passed, {len(WRONG) + 3 - passed} failed")
+        count = lambda *heads: sum(wanted.startswith(heads) for _, wanted in WRONG)
+        passed, is_open, told = count("excluded", "a worked") + 1, count("open") + 1, count("told")
+        failed = len(WRONG) + 4 - passed - is_open - told
+        self.assertEqual(self.said.splitlines()[-2:], [f"{is_open} are open, {told} told", f"{passed} passed, {failed} failed"])
 
 
 class OwnEdits(unittest.TestCase):
@@ -154,16 +161,22 @@ class Keeping(unittest.TestCase):
         path.parent.mkdir(parents=True, exist_ok=True)
         path.write_text(text)
 
-    def made(self, passes=True, is_read=True):
+    def made(self, passes=True, is_read=True, is_whole=True):
         """How often the verdict on an edit is made."""
         made, edit = [], "small/one"
         store = kept.Kept(self.room, {"low": [], "small": ["low"], "other": []}, is_read)
-        verdicts = store.or_made("small", ([edit], []), lambda *_: made.append(1) or {edit: (passes, "why")})
+        verdicts = store.or_made("small", ([edit], []), lambda *_: made.append(1) or {edit: (passes, "why")}, is_whole)
         self.assertEqual(verdicts, {edit: (passes, "why")})
         return len(made)
 
     def test_what_passed_is_kept_and_what_failed_is_not(self):
-        self.assertEqual([self.made(passes=False), self.made(), self.made(), self.made(is_read=False)], [1, 1, 0, 1])
+        self.assertEqual([self.made(passes=False), self.made(is_whole=False), self.made(), self.made(), self.made(is_read=False)], [1, 1, 1, 0, 1])
+
+    def test_an_edit_that_changes_while_it_is_judged_is_judged_again(self):
+        store = kept.Kept(self.room, {"low": [], "small": ["low"], "other": []})
+        self.write("small/wrong-bodies/lib.edit", "two")
+        store.or_made("small", (["small/one"], []), lambda *_: {"small/one": (True, "of the old text")})
+        self.assertEqual(self.made(), 1)
 
     def test_all_that_it_rests_on_counts(self):
         for file in ("low/src/lib.rt", "small/src/lib.rt", "small/wrong-bodies/lib.edit", "small/proofs/Lib.antt", "small/must-fail/a.edit"):
@@ -188,6 +201,8 @@ class Keeping(unittest.TestCase):
         one.holds = ["1 == 2"]
         self.assertFalse(is_kept())
         one.holds = ["1 == 1"]
+        self.assertTrue(is_kept())
+        self.made(is_read=False)
         self.assertTrue(is_kept())
         self.write("low/src/lib.rt", "two")
         self.assertFalse(is_kept())

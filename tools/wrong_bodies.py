@@ -1,24 +1,34 @@
 #!/usr/bin/env python3
-"""Judges the wrong bodies: edits that turn the meaning of a function, each of which its contract has to exclude.
+"""Judges the wrong bodies. A wrong body is an edit that changes what a function does: the contracts have to exclude it.
 
     tools/wrong_bodies.py [--reasons] [--from-nothing] [CRATE|CRATE/NAME ..]
 
-judges those of these crates, or these, or all. tools/edits.py has their form. A wrong body has a line `holds: EXPR`, and counts as
-excluded if both of these say so:
+judges those of these crates, or these, or all. tools/edits.py has their form. Each has a line `holds: EXPR`, and is excluded if a
+proof and a run both succeed:
 
-- The proof: `fn witness(alloc: Global) { let holds = EXPR; prove!(holds); }` is proved from the contracts of what it calls, and from
-  nothing else. So every body that meets its contract makes EXPR true.
-- The run: EXPR is true of the function as it is, and false of the wrong body, or the wrong body stops at a fault there.
+- The proof: `fn witness(alloc: Global) { let holds = EXPR; prove!(holds); }` is proved from the contracts of the functions that EXPR
+  calls, and from none of their bodies. So EXPR is true, whatever bodies they have, as long as these meet their contracts.
+- The run: EXPR is true with the function as it is. With the wrong body it is false, or the program stops at a fault there.
 
-So the wrong body doesn't meet the contract, whatever the proof of the function looks like. The prover doesn't see wrong bodies: a
-proof that fails could be a proof that no longer fits. Each crate takes one check, of a copy with all witnesses, and one program,
-built without proofs, whose functions have all bodies and ask C which one is tried. Functions that witnesses share are proved with
-them. Right bodies are built into the program too: one that makes an EXPR of its function false fails. Worked rows are proved and
-run. Edits that are open, because no proof was found yet, aren't judged and count for nothing.
+So with the wrong body, a function that EXPR calls, or one that this calls, breaks its contract. The prover doesn't see wrong bodies:
+it could refuse a right one, because its proof was written for another body.
 
-With --reasons each verdict is printed, else what failed and what is told in place of an EXPR. What passed is kept until something
-changes that it read; --from-nothing judges it all the same. Libraries below a crate are those that `rt ci` or `rt lib` left in out/,
-and are built by `rt lib` if one is missing or older than its sources. The last line is 'N passed, M failed'.
+Each crate takes one check, of a copy with all witnesses, and one program, built without proofs, in which each function has its own
+body and all wrong ones, and a function in C says which of them runs. Functions that witnesses share, in setup.txt, are proved in the
+same check: if one isn't, no witness is. Also judged are:
+
+- Worked rows, which are an EXPR without an edit: proved and run.
+- Right bodies, which are edits that change no meaning: each EXPR of their function has to stay true.
+- Bad edits, which fail: the text that they replace isn't there once, they change nothing or a contract, they don't compile.
+
+What is `told` in place of an EXPR, and edits that are `open`, because no proof was found yet, are neither proved nor run: they don't
+count as passed. A right body is open if no wrong body of its function is excluded.
+
+With --reasons each verdict is printed, else what failed and what is told. Each proof is kept until the sources of its crate or of
+one below it, its EXPR, the judge or the toolchain change, and the verdicts of a crate without a failure until that or an edit does.
+--from-nothing judges all the same. Libraries below a crate are those that `rt ci` or `rt lib` left in out/; they are built by `rt
+lib` if one is missing or older than its sources. The line before the last counts what is open and told; the last line is 'N passed,
+M failed'.
 """
 import argparse
 import os
@@ -278,7 +288,7 @@ def tried_together(crate, edits, rights, items, cases, below, whole=""):
             said = run("rt", "try", "--test", "--steps", "1", "--seconds", "20", folder=source.folder, RT_ALLOW_C="1")
         words = results(said)
         if words:
-            return {key: words.get(module, "stops") for module, key in tests.items()}, faults
+            return {key: words.get(module, "isn't tried") for module, key in tests.items()}, faults
         blamed = source.blamed(said)
         if not blamed:
             return {}, {**faults, **{edit: f"NOT TRIED: {said[-1500:]}" for edit in edits}}
@@ -320,7 +330,7 @@ def results(said):
     found = {}
     for module, verdict, words in re.findall(r"(?m)^test (?:\S*::)?(try_\d+_of_\w+)::it \.\.\. (\w+)\n((?:    .*\n)*)", said):
         last = words.strip().splitlines()[-1:] if verdict == "ok" else ["stops"]
-        found[module] = (last or [""])[0].strip()
+        found[module] = (last or ["says nothing"])[0].strip()
     return found
 
 
@@ -333,7 +343,7 @@ def judge(crate, edits, rights, below, kept):
     judged = [edit for edit in edits if edit.holds and not edit.open]
     verdicts = {edit: (None, f"open: {edit.open}") for edit in edits if edit.open}
     others = [edit for edit in edits if not edit.holds and not edit.open]
-    verdicts.update({edit: (True, f"told: {edit.told}") if edit.told else (False, "BAD EDIT: no such case") for edit in others})
+    verdicts.update({edit: (None, f"told: {edit.told}") if edit.told else (False, "BAD EDIT: no such case") for edit in others})
     words, faults = tried(crate, judged, rights, items, cases, below)
     verdicts.update({edit: (False, why) for edit, why in faults.items()})
     left = [edit for edit in judged if edit not in faults]
@@ -345,15 +355,17 @@ def judge(crate, edits, rights, below, kept):
         true, of_edit = words.get((edit, None)), words.get((edit, edit))
         if true != "holds":
             verdicts[edit] = (False, f"NOT TRUE of the function as it is, where it {true}")
-        elif of_edit in ("holds", "isn't reached"):
+        elif not edit.is_row and of_edit not in ("fails", "stops"):
             verdicts[edit] = (False, f"NOT WRONG: of the edit it {of_edit} too")
         elif edit in lacks:
             verdicts[edit] = (False, f"NOT PROVED: {lacks[edit]}")
         else:
             verdicts[edit] = (True, "a worked row" if edit.is_row else f"excluded: of the edit it {of_edit}")
     for right in rights:
-        wrong = [str(edit) for (edit, body), word in words.items() if body is right and word != "holds" and verdicts[edit][0]]
-        verdicts.setdefault(right, (not wrong, f"A RIGHT BODY IS JUDGED WRONG by {', '.join(wrong)}" if wrong else "a right body"))
+        tried_by = {edit: word for (edit, body), word in words.items() if body is right and verdicts[edit][0]}
+        wrong = [str(edit) for edit, word in tried_by.items() if word != "holds"]
+        verdict = (not wrong, f"A RIGHT BODY IS JUDGED WRONG by {', '.join(wrong)}" if wrong else "a right body")
+        verdicts.setdefault(right, verdict if tried_by else (None, "open: no wrong body of its function is excluded"))
     return verdicts
 
 
@@ -389,18 +401,20 @@ def main(words):
     options.add_argument("wanted", nargs="*", metavar="CRATE[/NAME]")
     given = options.parse_args(words)
     below = libraries_below()
-    found, bad = wanted_of(given.wanted, below)
     kept = Kept(ROOT, below, not given.from_nothing)
+    found, bad = wanted_of(given.wanted, below)
     build(dict.fromkeys(low for crate in found for low in below[crate]), below)
     verdicts = [(it, (False, why)) for it, why in bad]
     show(verdicts, given.reasons)
     with ThreadPoolExecutor(at_once()) as pool:
-        judged = lambda crate: kept.or_made(crate, found[crate], lambda *those: judge(crate, *those, below[crate], kept))
+        is_whole = lambda crate: not given.wanted or crate in given.wanted
+        judged = lambda crate: kept.or_made(crate, found[crate], lambda *those: judge(crate, *those, below[crate], kept), is_whole(crate))
         for result in pool.map(judged, found):
             show(result.items(), given.reasons)
             verdicts += result.items()
     count = lambda which: sum(is_passed is which for _, (is_passed, _) in verdicts)
-    print(f"{count(None)} are open\n{count(True)} passed, {count(False)} failed")
+    told = sum(why.startswith("told: ") for _, (_, why) in verdicts)
+    print(f"{count(None) - told} are open, {told} told\n{count(True)} passed, {count(False)} failed")
     return 1 if count(False) or not count(True) else 0
 
 

@@ -1,6 +1,6 @@
 -- Records as lists of events of the program.
-use Rattle.std.proofs.Common.{◌≡◌, ◌∷◌, ◌++◌, [], ◌+◌, ◌<◌, ◌^◌, Bool, true, false, ℕ, ap, sym, subst, ◌∙◌, arith, length, map, take, get_or, List}
-use Rattle.std.proofs.lemmas.List.{length-map, take_at}
+use Rattle.std.proofs.Common.{◌≡◌, ◌∷◌, ◌++◌, [], ◌+◌, ◌<◌, ◌≤◌, ◌^◌, Bool, true, false, ℕ, ap, sym, subst, ◌∙◌, arith, length, map, take, get_or, List}
+use Rattle.std.proofs.lemmas.List.{length-append, length-map, take_at}
 use mathlib.Core.List.{IsPrefix}
 use Rattle.gopher_catalogue.specs.declared.event.Event.{Event}
 use Rattle.gopher_catalogue.specs.declared.event.EventData.{EventData}
@@ -8,11 +8,19 @@ use Rattle.gopher_catalogue.specs.EventOf.{event_data}
 use Rattle.gopher_catalogue.specs.Legal.{IsLegal}
 use Rattle.gopher_catalogue.proofs.LegalSizes.{length-record_fits}
 use Rattle.gopher_crew.specs.History.{RecordPrefixData, AddsEventTo}
-use Rattle.gopher_crew.proofs.Prefixes.{prefix_take, take_map_more}
+use Rattle.gopher_crew.proofs.Prefixes.{prefix_take, prefix_whole, take_map_more}
 
 -- a record is short
 pub record_room : (events : List Event) (record_ : List EventData) → map event_data events ≡ record_ → IsLegal record_ → length events < 2 ^ 32
 record_room events record_ is legal = omega (arith, length-record_fits record_ legal, ap length is, length-map events event_data)
+
+-- a prefix as long as a record is the whole record
+pub whole_record : (prefix record_ : List EventData) (events : List Event) → map event_data events ≡ record_ → IsPrefix prefix record_ → length events ≤ length prefix → prefix ≡ record_
+whole_record prefix record_ events is begins long = prefix_whole prefix record_ begins (omega (arith, ap length is, length-map events event_data))
+
+-- a prefix to which one event was added is one longer
+pub one_longer : (old new : RecordPrefixData) (event : EventData) → new.events ≡ old.events ++ event ∷ [] → length new.events ≡ length old.events + 1
+one_longer old new event adds = omega (arith, ap length adds, length-append old.events (event ∷ []))
 
 -- a prefix of a record, to which the next event was added or not
 pub one_more_entered : (added : Bool) (old new : RecordPrefixData) (events : List Event) (record_ : List EventData) (i : ℕ) (event : Event)

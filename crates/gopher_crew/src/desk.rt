@@ -121,7 +121,7 @@ impl<C: Crew, R: Wait + Drop> Desk<C, R> {
     ///
     /// # Errors
     /// - `BadCount` (60): the number of passes or of shares isn't 1 to 16. This is tested first.
-    /// - `NoEntry` (61): a pass can't enter what is published.
+    /// - `NoEntry` (61): the history can't be entered, or a pass can't enter what is published.
     /// - `NoMemory` (90).
     ///
     /// The error has the catalogue and the blank.
@@ -152,7 +152,13 @@ impl<C: Crew, R: Wait + Drop> Desk<C, R> {
             });
         }
         let mut blank = blank;
-        blank.enter(&rt, &catalogue);
+        if !blank.enter(&catalogue) {
+            return Err(DeskRefused {
+                fault: DeskFault::NoEntry,
+                catalogue,
+                blank,
+            });
+        }
         let Ok(mut list) = Vec::with_capacity(alloc, shares as usize) else {
             return Err(DeskRefused {
                 fault: DeskFault::NoMemory,

@@ -34,7 +34,7 @@ pub enum DeskFault {
     /// 60: the number of passes or of shares isn't 1 to 16.
     #[error("the number of passes or of shares is not 1 to 16")]
     BadCount,
-    /// 61: a pass can't enter what is published.
+    /// 61: the history can't be entered, or a pass can't enter what is published.
     #[error("the published version can't be entered")]
     NoEntry,
     /// 90: out of memory.

@@ -38,7 +38,7 @@ pub use gopher_crew::{Blank, Calls, Crew, Desk, DeskFault, DeskRefused, Fetch, P
 pub use gopher_item::{Home, ItemFault, NoMemory, Place};
 pub use gopher_scope::{Key, Rule, Scope, SettingsFault};
 pub use gopher_script::{ReplayFault, replay};
-pub use gopher_serve::ServeFault;
+pub use gopher_serve::{Answer, Answers, Replies, RepliesRefused, ServeFault};
 pub use gopher_server::OpenLog;
 pub use gopher_text::{MAX_REPLY, Watched};
 pub use gopher_tree::{Trail, Tree, TreeFault};

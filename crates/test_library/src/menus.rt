@@ -38,6 +38,15 @@ fn a_menu_is_written_as_it_was_read(rt: HostRuntime) {
     }
 }
 
+#[test]
+fn a_line_without_fields_is_odd(rt: HostRuntime) {
+    let menu = read_menu(rt.alloc(), b"1Mo").expect(&rt, "a menu");
+    let [Entry::Odd(odd)] = menu.entries.as_slice() else {
+        panic!(rt; "it has one odd line");
+    };
+    assert!(rt; odd.as_slice() == b"1Mo".as_slice() && !menu.ended);
+}
+
 // Whether a line that begins with this byte is read as an item of this type, or as an odd line.
 fn is_read_by_type(alloc: Global, kind: u8) -> bool {
     let mut bytes = *b"Bx\t/s\th\t70\r\n";

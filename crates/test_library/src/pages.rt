@@ -116,7 +116,7 @@ fn queries_want_words(rt: HostRuntime) {
 
 #[test]
 fn words_are_runs_of_letters(rt: HostRuntime) {
-    let cafe = words(rt.alloc(), b"(Caf\xc3\xa9)").expect(&rt, "words");
+    let cafe = words(rt.alloc(), b"Caf\xc3\xa9").expect(&rt, "words");
     assert!(rt; cafe.len() == 1 && cafe[0].as_slice() == b"caf\xc3\xa9".as_slice());
     let longest = words(rt.alloc(), &[b'a'; 40]).expect(&rt, "words");
     assert!(rt; longest.len() == 1 && longest[0].as_slice() == [b'a'; 40].as_slice());

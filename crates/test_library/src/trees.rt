@@ -99,6 +99,7 @@ fn a_file_has_at_most_16_mebibytes(rt: HostRuntime) {
     assert!(rt; fault_of_size(rt.alloc(), 16_777_216).is_none());
     let fault = fault_of_size(rt.alloc(), 16_777_217);
     assert!(rt; fault == Some(TreeFault::TooBig { file: 0 }));
+    assert!(rt; fault.map(TreeFault::code) == Some(23));
 }
 
 const FILES: Files = &[

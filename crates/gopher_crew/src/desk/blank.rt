@@ -1,15 +1,16 @@
 //! `Blank`: what a desk is opened with.
 
-ghost use Rattle.std.specs.Prelude.{◌≡◌, []};
+ghost use Rattle.std.specs.Prelude.{◌≡◌, [], IsTrue};
 ghost use mathlib.Core.List.{IsPrefix};
 ghost use Rattle.gopher_crew.specs.Desk.{ComesBack};
 
-use crate::publication::entering::enter;
+use crate::publication::entering::enter_rest;
 use crate::publication::history::{Head, new_history};
 use crate::publication::record_prefix::RecordPrefix;
 use gopher_catalogue::Catalogue;
+use std::fmt;
 use std::marker::Model;
-use std::sync::{Wait, ledger};
+use std::sync::ledger;
 
 /// What a desk is opened with: a ledger that counts nothing yet, and a history. The crate
 /// `example_crawl` shows how a caller makes one and opens a desk.
@@ -34,6 +35,14 @@ impl Model for Blank {
     ghost invariant = { λ b. (b.count.parts ≡ 16) × (b.head ≡ b.prefix.history) };
 }
 
+impl fmt::Debug for Blank {
+    fn fmt<W: fmt::Write>(&self, f: &mut fmt::Formatter<W>) -> fmt::Result {
+        f.debug_struct("Blank")
+            .field("begun", &self.prefix.len())
+            .finish_non_exhaustive()
+    }
+}
+
 impl Blank {
     /// A blank with a ledger of 16 parts and a new history.
     pub fn new() -> Blank
@@ -48,13 +57,14 @@ impl Blank {
         }
     }
 
-    /// Enters the rest of a catalogue's record into the history.
-    pub(crate) fn enter<R: Wait>(&mut self, rt: &R, catalogue: &Catalogue)
+    /// Enters the rest of a catalogue's record into the history. Returns whether all of it is
+    /// entered then.
+    pub(crate) fn enter(&mut self, catalogue: &Catalogue) -> bool
         requires { IsPrefix self.old.begun catalogue.now }
         ensures back { ComesBack catalogue.now self.old self.new }
-        ensures all { self.new.begun ≡ catalogue.now }
+        ensures all { IsTrue result → self.new.begun ≡ catalogue.now }
     {
-        enter(rt, &mut self.prefix, &self.head, catalogue);
+        enter_rest(&mut self.prefix, &self.head, catalogue)
     }
 
     /// Returns the token of the events that were entered.

@@ -5,6 +5,7 @@ ghost use Rattle.gopher_catalogue.specs.Legal.{IsLegal};
 
 use crate::crew::Crew;
 use crate::publication::record_prefix::RecordPrefix;
+use std::fmt;
 use std::marker::{Model, PhantomData};
 
 /// A token that a record was published, for `Pass::hear`. Contracts see that record.
@@ -24,6 +25,14 @@ impl<C: Crew> Model for Note<C> {
     ghost view = { λ n. n.prefix.events };
 
     ghost invariant = { λ n. (n.prefix.history ≡ C.history) × IsLegal n.prefix.events };
+}
+
+impl<C: Crew> fmt::Debug for Note<C> {
+    fn fmt<W: fmt::Write>(&self, f: &mut fmt::Formatter<W>) -> fmt::Result {
+        f.debug_struct("Note")
+            .field("at", &self.prefix.len())
+            .finish()
+    }
 }
 
 impl<C: Crew> Note<C> {
