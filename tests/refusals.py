@@ -61,7 +61,8 @@ def refuse_each(test, name, words, given, wanted, is_refused):
         test.expect(f"{name}, allocation {number} refused", end if not is_told else wanted, wanted)
     # a run is counted only if the library was loaded, and its allocation refused if that many were asked for
     test.expect(f"{name}: allocations are refused, to the last", number > LEAST_RUNS and counted < number, True)
-    test.expect(f"{name}: how many of {number} refusals are told", told > 0, is_refused is not never)
+    if is_refused is not never:
+        test.expect(f"{name}: of {number} refusals some are told", told > 0, True)
 
 
 def never(*_):

@@ -33,6 +33,8 @@ FAILED_OF_UNITTEST = re.compile(r"(?m)^FAILED \((.*)\)$")
 AT_ONCE, PROCESSORS_ALONE = 2, 2
 # files of tests/ that are no tests of the gate: this one, and one that wants clients that a machine may lack
 BY_HAND = ("run_all", "clients")
+# tools that are tests too
+CHECKS = ("check_links", "clauses")
 
 
 @dataclass(frozen=True)
@@ -79,6 +81,7 @@ TESTS = (
 def faults(tests=TESTS, root=ROOT):
     """What is wrong with the list: a file that isn't in it, or one that can't be run."""
     files = [*(root / "tests").glob("*.py"), *(root / "tools").glob("test_*.py")]
+    files += [it for it in (root / "tools").glob("*.py") if it.stem in CHECKS]
     listed = {root / it.file for it in tests}
     missing = [it for it in files if it not in listed and it.stem not in BY_HAND]
     broken = [it for it in listed if not os.access(it, os.X_OK)]

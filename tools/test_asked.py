@@ -71,8 +71,8 @@ class Asked(unittest.TestCase):
     def test_calls_are_public(self):
         def check(call, asked, crate):
             self.assertTrue(has_call(crate, call), f"{call} isn't in {crate}")
-            if asked != crate:
-                self.assertTrue(hands_on(asked, call.partition("::")[0]), f"{asked} doesn't hand {call} on")
+            self.assertTrue(hands_on(crate, call.partition("::")[0]), f"{crate} doesn't hand {call} on")
+            self.assertTrue(hands_on(asked, call.partition("::")[0]), f"{asked} doesn't hand {call} on")
 
         self.each("Public calls", check)
 

@@ -17,7 +17,7 @@ ROOT = TOOLS.parent
 SOURCE = """//! Functions that count on.
 #![tactic(auto)]
 
-ghost use Rattle.std.specs.Prelude.{◌≡◌, ◌+◌, ◌<◌, ◌≤◌};
+ghost use Rattle.std.specs.Prelude.{◌≡◌, ◌+◌, ◌<◌, ◌≤◌, vec_len, IfSome};
 
 /// The number after this one.
 pub fn next(number: u32) -> u32
@@ -34,6 +34,35 @@ fn twice(number: u32) -> u32
     ensures { number ≤ result }
 {
     number * 2
+}
+
+/// A number that was counted.
+#[derive(Drop)]
+pub struct Counter {
+    count: u32,
+}
+
+impl Counter {
+    /// Counts from this number on.
+    pub fn new(count: u32) -> Counter
+        ensures { result.count ≡ count }
+    {
+        Counter { count }
+    }
+
+    /// The number.
+    pub fn count(&self) -> u32
+        ensures { result ≡ self.now.count }
+    {
+        self.count
+    }
+}
+
+/// A list of a number, or none if there is no memory.
+pub fn list_of(alloc: std::alloc::Global, number: u32) -> Option<Vec<u32>>
+    ensures { IfSome result (λ list. vec_len list ≡ 1) }
+{
+    Vec::from_array(alloc, [number]).ok()
 }
 
 /// The number two places after this one.
@@ -69,12 +98,47 @@ WRONG = (
     (edit("nothing", "next", "    number + 1", "    number  + 1", "holds: next(1) == 2"), "BAD EDIT: it changes nothing"),
     (edit("without", "next", "    number + 1", "    number + 2"), "BAD EDIT: it has no 'holds' and doesn't tell why"),
     (edit("told", "next", "    number + 1", "    number + 2", "told: nobody waits for it"), "told: nobody waits for it"),
+    (
+        edit("never_true", "next", "    number + 1", "    number + 8", "case: contradictory", "given: let _number = number;", "holds: next(1) == 2"),
+        "NOT PROVED: 1 == 2 is proved from what its case requires",
+    ),
+    (
+        edit("counts_once_more", "Counter::count", "    count: u32,", "    count: u32, more: u32,", "old:         Counter { count }", "new:         Counter { count, more: 1 }", "old:         self.count", "new:         self.count + self.more", "holds: Counter::new(1).count() == 1"),
+        "excluded: of the edit it fails",
+    ),
+    (
+        edit(
+            "empty_list", "list_of", "    Vec::from_array(alloc, [number]).ok()", "    Vec::from_array(alloc, [number]).ok().or(Some(Vec::new(alloc)))",
+            "given: crate::refuse_memory(true);", "given: let list = list_of(alloc, 1);", "given: crate::refuse_memory(false);",
+            "holds: list.is_none() || list.is_some_and(|it| it.len() == 1)",
+        ),
+        "excluded: of the edit it fails",
+    ),
     (edit("not_yet", "next", "    number + 1", "    number + 7", "open: no proof was found", "holds: next(2) == 3"), "open: no proof was found"),
     ("name: of_must_fail\nmust-fail: kit\nfunction: next\nholds: next(1) == 2\n", "excluded: of the edit it fails"),
     ("name: row\nholds: next(41) == 42\n", "a worked row"),
 )
 RIGHT = edit("turned", "next", "    number + 1", "    1 + number") + "\n" + edit("no_right", "next", "    number + 1", "    number + 9")
 RIGHT += "\n" + edit("of_twice", "twice", "number * 2", "2 * number")
+SETUP = """== case contradictory
+fn NAME(number: u32) -> Option<bool>
+    requires small { number < 1 }
+    requires large { 1 ≤ number }
+{
+HOLDS
+    None
+}
+== call contradictory
+NAME(0)
+"""
+# what witnesses of another crate share isn't proved
+UNPROVED = """== items src/lib.rt
+fn twice_the_next(number: u32) -> u32
+    ensures { result ≡ 4 }
+{
+    next(number) * 2
+}
+"""
 NOT_NAMED = "small/alone: BAD EDIT: no wrong body says what it breaks"
 
 
@@ -87,14 +151,18 @@ class Judge(unittest.TestCase):
             "HANDLES": "Handles allowed: none.\n",
             "crates/small/src/lib.rt": SOURCE,
             "crates/small/wrong-bodies/lib.edit": "\n".join(text for text, _ in WRONG),
+            "crates/small/wrong-bodies/setup.txt": SETUP,
             "crates/small/right-bodies/lib.edit": RIGHT,
             "crates/small/must-fail/kit.edit": "file: src/lib.rt\nold:     number + 1\nnew:     number + 6\n",
+            "crates/other/src/lib.rt": SOURCE,
+            "crates/other/wrong-bodies/setup.txt": UNPROVED,
+            "crates/other/wrong-bodies/lib.edit": edit("shared", "next", "    number + 1", "    number + 2", "holds: twice_the_next(1) == 4"),
             "crates/small/must-fail/alone.edit": "file: src/lib.rt\nold:     number + 1\nnew:     number + 6\n",
         }
         for file, text in files.items():
             (cls.room / file).parent.mkdir(parents=True, exist_ok=True)
             (cls.room / file).write_text(text)
-        (cls.room / "crates.txt").write_text("small:\n")
+        (cls.room / "crates.txt").write_text("small:\nother:\n")
         how = {**os.environ, "ROOT": str(cls.room), "HOLE_GATE_CACHE": str(cls.room / "kept")}
         words = [TOOLS / "wrong_bodies.py", "--reasons"]
         cls.said = subprocess.run(words, env=how, stdout=subprocess.PIPE, stderr=subprocess.STDOUT, text=True).stdout
@@ -115,10 +183,13 @@ class Judge(unittest.TestCase):
     def test_a_must_fail_edit_without_a_wrong_body_fails(self):
         self.assertIn(NOT_NAMED, self.said)
 
+    def test_what_witnesses_share_has_to_be_proved(self):
+        self.assertIn("\nother/shared: NOT PROVED: twice_the_next isn't proved: ", self.said)
+
     def test_all_are_counted(self):
         count = lambda *heads: sum(wanted.startswith(heads) for _, wanted in WRONG)
         passed, is_open, told = count("excluded", "a worked") + 1, count("open") + 1, count("told")
-        failed = len(WRONG) + 4 - passed - is_open - told
+        failed = len(WRONG) + 5 - passed - is_open - told
         self.assertEqual(self.said.splitlines()[-2:], [f"{is_open} are open, {told} told", f"{passed} passed, {failed} failed"])
 
 

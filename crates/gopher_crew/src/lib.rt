@@ -97,4 +97,5 @@ pub use pass::{Answer, Pass};
 pub use publication::note::Note;
 pub use working::crawling::{CrawlRefused, crawl};
 pub use working::fetch::{Calls, Fetch};
+pub use working::settling::settle;
 pub use working::{Stop, WorkEnd, work};

@@ -1,8 +1,10 @@
 //! Fetches over streams in memory, which end and fail at each place. Hosts that send in pieces are
 //! shown by tests/crawling.py.
 
-use crate::stream::{letters, Ending, Stream};
+use crate::opening::scope;
+use crate::stream::{Ending, Stream, letters};
 use gopher_catalogue::Why;
+use gopher_crew::settle;
 use gopher_hole::fetch_over;
 use gopher_item::Place;
 use gopher_text::Watched;
@@ -51,4 +53,15 @@ fn a_fetch_gives_at_most_a_mebibyte(rt: HostRuntime) {
         };
         assert!(rt; fetched(&rt, whole) == (wanted, 0));
     }
+}
+
+#[test]
+fn a_reply_becomes_a_page(rt: HostRuntime) {
+    let place = Place::new(rt.alloc(), b'0', b"/moon", b"h", 70).expect(&rt, "a place");
+    let scope = scope(rt.alloc(), b"h").expect(&rt, "a scope");
+    let bytes = Vec::from_slice(rt.alloc(), b"moon\r\n.\r\n").expect(&rt, "a reply");
+    let page = settle(rt.alloc(), &scope, &place, Ok(bytes)).ok();
+    assert!(rt; page.expect(&rt, "a page").count(b"moon") == 1);
+    let failed = settle(rt.alloc(), &scope, &place, Err(Why::Read));
+    assert!(rt; matches!(failed, Err(Why::Read)));
 }

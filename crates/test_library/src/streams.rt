@@ -2,7 +2,7 @@
 //! again, where each ends, and with which fault.
 ghost use Rattle.std.specs.Prelude.{◌≤◌};
 
-use crate::stream::{letters, Ending, Letters, Stream};
+use crate::stream::{Ending, Letters, Stream, letters};
 use gopher_text::{Watched, read_line_from, read_reply, send};
 use std::alloc::Global;
 use std::io::Write;

@@ -23,8 +23,8 @@ pub fn settle(
     ensures page { IfOk fetched (λ it. Settles scope.now place.now it.items result) }
     ensures unfetched { IfErr fetched (λ why. result ≡ Err why) }
 {
-    let bytes = fetched?;
-    let Ok(page) = Page::of(alloc, scope, place, &bytes) else {
+    let reply = fetched?;
+    let Ok(page) = Page::of(alloc, scope, place, &reply) else {
         return Err(Why::NoMemory);
     };
     Ok(page)
