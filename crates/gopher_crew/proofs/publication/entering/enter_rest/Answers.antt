@@ -1,4 +1,5 @@
 use Rattle.std.proofs.Common.{arith, ◌∙◌}
+use Rattle.gopher_catalogue.specs.EventOf.{event_data}
 use Rattle.gopher_crew.proofs.Records.{record_room, one_more_entered, one_longer}
 use Rattle.gopher_crew.proofs.publication.entering.enter_rest.Goals as goal
 
@@ -12,5 +13,5 @@ loop-index-preserved c = record {
   begun =
       one_more_entered c.add.result c.loop-index.prefix c.add.new.self c.record-events.result.now c.args.catalogue.now c.loop-index.index c.index-events-index.result
       c.record-events.ensures.events c.loop-index.invariant.begun c.loop-index.invariant.at c.loop-index-test.true c.index-events-index.is c.add.ensures.events;
-  at = omega (arith, c.loop-index.invariant.at, one_longer _ _ _ (rw c.if-not-add.false at c.add.ensures.events));
+  at = omega (arith, c.loop-index.invariant.at, one_longer c.loop-index.prefix c.add.new.self (event_data c.index-events-index.result) (rw c.if-not-add.false at c.add.ensures.events));
 }
