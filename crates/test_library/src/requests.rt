@@ -30,7 +30,12 @@ pub const EARLY: [Row; 5] = [
 ];
 
 /// A request of a pass that sees the root's page.
-pub const LATE: Row = (SEARCH, Ending::Ends, b"1Docs\t\tlocalhost\t70\r\n.\r\n", (0, 0, 0));
+pub const LATE: Row = (
+    SEARCH,
+    Ending::Ends,
+    b"1Docs\t\tlocalhost\t70\r\n.\r\n",
+    (0, 0, 0),
+);
 
 /// A request of a pass whose desk is closed.
 pub const CLOSED: Row = (
