@@ -15,7 +15,7 @@ it could refuse a right one, because its proof was written for another body.
 
 Each crate takes one check, of a copy with all witnesses, and one program, built without proofs, in which each function has its own
 body and all wrong ones, and a function in C says which of them runs. Functions that witnesses share, in setup.txt, are proved in the
-same check: if one isn't, no witness is. Nor is one if 1 == 2 is proved from what its case requires. Also judged are:
+same check: if one isn't, no witness that calls it is. Nor is one if 1 == 2 is proved from what its case requires. Also judged are:
 
 - Worked rows, which are an EXPR without an edit: proved and run.
 - Right bodies, which are edits that change no meaning: each EXPR of their function has to stay true.
@@ -231,9 +231,21 @@ def checked(crate, edits, items, cases, below):
         for control in controls:
             why = blamed.pop(control, None) or ("" if lacking(crate, control.path(), said) else "1 == 2 is proved from what its case requires")
             blamed.update({edit: why for edit in edits if why and edit.case == control.case})
-        if lacks := [f"{path} isn't proved: {why}" for path in shared if (why := lacking(crate, path, said))]:
-            blamed = {**{edit: lacks[0] for edit in edits}, **blamed}
+        for path in shared:
+            if why := lacking(crate, path, said):
+                uses = re.compile(rf"\b({'|'.join(callers_of(path.split('::')[-1], items))})\b")
+                blamed = {**{edit: f"{path} isn't proved: {why}" for edit in edits if uses.search(edit.witness(asserted, cases))}, **blamed}
         return said, blamed
+
+
+def callers_of(name, items):
+    """The names of a shared function and of those that call it, or one that calls it."""
+    found = {name}
+    functions = [it for text in items.values() for it in re.split(r"(?m)^(?= *(?:pub(?:\(\w+\))? )?fn \w)", text)[1:]]
+    named = {re.search(r"fn (\w+)", it)[1]: it for it in functions}
+    while more := {it for it, text in named.items() if it not in found and re.search(rf"\b({'|'.join(found)})\b", text)}:
+        found |= more
+    return found
 
 
 def controls_of(edits, cases):
