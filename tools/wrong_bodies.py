@@ -32,6 +32,7 @@ M failed'.
 """
 import argparse
 import copy
+import itertools
 import os
 import pathlib
 import re
@@ -197,18 +198,19 @@ def unproved(crate, edits, items, cases, below):
 
 
 def functions_of(items):
-    """The paths of the functions that witnesses share, as a check prints them: a trait's method has its type and its trait."""
+    """The paths of the functions that witnesses share, as a check prints them: a trait's method has its type and its trait. Those of
+    tests alone, with which a program calls witnesses, aren't checked."""
     found = []
     for file, text in items.items():
         owner = []
-        for line in text.splitlines():
+        for before, line in itertools.pairwise(["", *text.splitlines()]):
             if head := IMPL.match(line):
                 own = re.findall(r"[<,] *(\w+)", head["generics"] or "")
                 words = [word for word in re.findall(r"(?<![\w'])\w+(?!\w*::)", head["of_trait"] or "") if word not in own]
                 owner = [head["of_type"] + "".join(word[0].upper() + word[1:] for word in words)]
             elif line == "}":
                 owner = []
-            elif name := re.match(r" *(?:pub(?:\(\w+\))? )?fn (\w+)", line):
+            elif before != "#[cfg(test)]" and (name := re.match(r" *(?:pub(?:\(\w+\))? )?fn (\w+)", line)):
                 found.append("::".join([*module_of(file), *owner, name[1]]))
     return found
 
