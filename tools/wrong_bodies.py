@@ -262,7 +262,7 @@ def controls_of(edits, cases):
 
 def lacking(crate, path, said):
     """What a function lacks, as a check said; nothing if it is proved, but for what it calls."""
-    found = re.search(rf"(?m)^fn {crate}::{re.escape(path)}: (proved|not proved|no proof: .*|could not tell.*)$", said)
+    found = re.search(rf"(?m)^fn {crate}::{re.escape(path)}: (proved|not proved|no proof: .*?|could not tell.*?)(?:, may wait)?$", said)
     if not found:
         return f"the check said nothing of it: {said[-1500:]}"
     goals = [it for it in found[1].removeprefix("no proof: ").split("; ") if not NO_GOAL.search(it)]

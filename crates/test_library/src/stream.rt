@@ -1,5 +1,6 @@
 //! A stream in memory that moves little at a time, is interrupted, waits and fails.
 
+use std::alloc::Global;
 use std::io::{self, Error, ErrorKind, Read, Write};
 
 /// How a stream goes on once it has moved its bytes.
