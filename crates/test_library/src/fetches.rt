@@ -2,7 +2,7 @@
 //! shown by tests/crawling.py.
 
 use crate::opening::scope;
-use crate::stream::{Ending, Stream, letters};
+use crate::stream::{Ending, Stream, many_letters};
 use gopher_catalogue::Why;
 use gopher_crew::settle;
 use gopher_hole::fetch_over;
@@ -44,7 +44,7 @@ fn fetches_end_with_a_reply_or_say_why(rt: HostRuntime) {
 
 #[test]
 fn a_fetch_gives_at_most_a_mebibyte(rt: HostRuntime) {
-    let bytes = letters(rt.alloc(), 1_048_577).expect(&rt, "memory");
+    let bytes = many_letters(rt.alloc(), 1_048_577).expect(&rt, "memory");
     for (from, wanted) in [(1usize, Ok(true)), (0, Err(Why::TooLong))] {
         let stream = Stream::new(&bytes[from..], REQUEST, 7, Ending::Ends);
         let whole = Stream {

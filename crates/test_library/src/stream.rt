@@ -114,7 +114,7 @@ impl Letters {
 }
 
 /// A number of letters. It is a call because the prover would write out a number that it sees.
-pub fn letters(alloc: Global, count: usize) -> Option<Vec<u8>> {
+pub fn many_letters(alloc: Global, count: usize) -> Option<Vec<u8>> {
     vec![in alloc; b'a'; count].ok()
 }
 

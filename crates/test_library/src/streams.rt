@@ -2,7 +2,7 @@
 //! again, where each ends, and with which fault.
 ghost use Rattle.std.specs.Prelude.{◌≤◌};
 
-use crate::stream::{Ending, Letters, Stream, letters};
+use crate::stream::{Ending, Letters, Stream, many_letters};
 use gopher_text::{Watched, read_line_from, read_reply, send};
 use std::alloc::Global;
 use std::io::Write;
@@ -52,7 +52,7 @@ const LINES: &[(usize, &[u8], u32, LineEnd)] = &[
 ];
 
 fn line_of_letters(alloc: Global, count: usize, end: &[u8], interruptions: u32) -> Option<LineEnd> {
-    let mut bytes = letters(alloc, count)?;
+    let mut bytes = many_letters(alloc, count)?;
     bytes.extend_from_slice(end).ok()?;
     Some(line_of(alloc, slow(&bytes, interruptions, Ending::Ends)))
 }
@@ -98,7 +98,7 @@ fn reply_of(alloc: Global, reader: Stream, limit: usize) -> (Result<(), u8>, usi
 // The length of the reply that has this number of letters, one a read after an interrupted read; or
 // the number of its fault, 0 for other bytes.
 fn slow_reply(alloc: Global, count: u32) -> Option<Result<usize, u8>> {
-    let wanted = letters(alloc, count as usize)?;
+    let wanted = many_letters(alloc, count as usize)?;
     match read_reply(alloc, &mut Watched::new(Letters::new(count)), 1_048_576) {
         Ok(reply) if reply.as_slice() == wanted.as_slice() => Some(Ok(reply.len())),
         Ok(_other) => Some(Err(0)),
@@ -118,7 +118,7 @@ fn a_reply_is_not_read_with_2097153_reads(rt: HostRuntime) {
 
 #[test]
 fn a_reply_has_at_most_a_mebibyte(rt: HostRuntime) {
-    let bytes = letters(rt.alloc(), 1_048_580).expect(&rt, "memory");
+    let bytes = many_letters(rt.alloc(), 1_048_580).expect(&rt, "memory");
     for (count, wanted) in [(1_048_576usize, (Ok(()), 0)), (1_048_580, (Err(12), 3))] {
         let reader = Stream {
             size: 65_536,
