@@ -24,7 +24,7 @@ from running.server import HOST, ROOT, Host, ask, crawling, free_port, run_test,
 
 CRATE = ROOT / "crates" / "test_library"
 CALLS = CRATE / "out" / "test_library_tests"
-CALLED = ("desks::refused_calls_succeed_when_made_again", "workers::a_crawl_ends_with_one_growth_refused")
+CALLED = "desks::refused_calls_succeed_when_made_again"
 MOST_RUNS = 100_000
 # Each of these runs asks for more allocations than this.
 LEAST_RUNS = 20
@@ -211,13 +211,13 @@ def check_workers(test):
 
 
 def check_calls(test):
-    """Tests of a desk with one growth refused, whose calls are made again, and of a crawl. They print what says that they passed."""
+    """The test that makes each refused call again. It prints what says that it passed."""
     if not os.access(CALLS, os.X_OK):
         subprocess.run(["rt", "test"], cwd=CRATE, check=True, stdout=subprocess.DEVNULL)
-    for called in CALLED:
-        wanted = refused(test, [CALLS, called], b"", 0)[0]
-        test.expect(called, (wanted[0] != b"", *wanted[1:]), (True, b"", 0))
-        refuse_each(test, called, [CALLS, called], b"", wanted, never)
+    words = [CALLS, CALLED]
+    wanted = refused(test, words, b"", 0)[0]
+    test.expect(CALLED, (wanted[0] != b"", *wanted[1:]), (True, b"", 0))
+    refuse_each(test, CALLED, words, b"", wanted, never)
 
 
 if __name__ == "__main__":

@@ -54,8 +54,8 @@ fn sees<C: Crew, R: Abort>(
     (answer.at, are_of_root(rt, &answer.hits))
 }
 
-/// Places fail only because memory ran out, and only if it may run out.
-pub fn fail_without_memory(record: &[Event], may_refuse: bool) -> bool {
+// Places fail only because memory ran out, and only if it may run out.
+fn fail_without_memory(record: &[Event], may_refuse: bool) -> bool {
     record.iter().all(|event| match event {
         Event::Failed(_, why) => may_refuse && *why == Why::NoMemory,
         _ => true,

@@ -46,7 +46,7 @@ fn fetches_end_with_a_reply_or_say_why(rt: HostRuntime) {
 fn a_fetch_gives_at_most_a_mebibyte(rt: HostRuntime) {
     let bytes = many_letters(rt.alloc(), 1_048_577).expect(&rt, "memory");
     for (from, wanted) in [(1usize, Ok(true)), (0, Err(Why::TooLong))] {
-        let stream = Stream::new(&bytes[from..], REQUEST, 7, Ending::Ends);
+        let stream = Stream::new(&bytes[from.min(bytes.len())..], REQUEST, 7, Ending::Ends);
         let whole = Stream {
             size: 65_536,
             ..stream

@@ -173,7 +173,13 @@ fn request_lines_are_read(rt: HostRuntime) {
         assert!(rt; is_asked(rt.alloc(), line, *wanted));
     }
     let line = search_of(rt.alloc(), 1_016).expect(&rt, "memory");
-    assert!(rt; is_asked(rt.alloc(), &line, Ok((b"/search", Some(&line[8..])))));
+    assert!(rt;
+        is_asked(
+            rt.alloc(),
+            &line,
+            Ok((b"/search", Some(&line[line.len().min(8)..])))
+        )
+    );
     let line = search_of(rt.alloc(), 1_017).expect(&rt, "memory");
     assert!(rt; is_asked(rt.alloc(), &line, Err(7)));
 }

@@ -235,26 +235,3 @@ fn a_worker_finishes_after_three_calls(rt: HostRuntime) {
     let closed = worked::<Brand, _>(&rt, Blank::new());
     has_ended(&rt, &FILES, &closed);
 }
-
-// Crawls two files by a worker, of whose growths one may be refused: the worker stops, or a place
-// fails.
-fn crawl_refused<C: Crew, R: Wait + Abort + AllocGlobal>(rt: &R, blank: Blank)
-    requires blank { IsBlankOf C.name C.parts C.history blank }
-    requires begun { blank.begun ≡ [] }
-{
-    let host = Host::new(TWO_FILES);
-    let begun = again!(rt, true, crawl(rt.alloc(), b"h", 10, 1));
-    let (desk, _passes, mut shares) = opened::<C, R>(rt, true, blank, begun, 1);
-    let share = shares.pop().expect(rt, "no share");
-    let end = work(rt, rt.alloc(), &desk, Fetcher::new(&host, 0), share);
-    let status = desk.status(rt);
-    assert!(rt; end.stop == Stop::NoMemory || status == all_done(3) || status == all_done(1));
-    push(rt, &mut shares, end.share);
-    let closed = desk.close(shares).ok().expect(rt, "the desk isn't closed");
-    assert!(rt; fail_without_memory(closed.record(), true));
-}
-
-#[test]
-fn a_crawl_ends_with_one_growth_refused(rt: HostRuntime) {
-    crawl_refused::<Brand, _>(&rt, Blank::new());
-}
