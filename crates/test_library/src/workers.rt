@@ -3,9 +3,8 @@
 ghost use Rattle.std.specs.Prelude.{◌≡◌, ◌≤◌, [], length};
 ghost use Rattle.gopher_crew.specs.Desk.{IsBlankOf};
 
-use crate::desks::fail_without_memory;
 use crate::fetcher::{Fetcher, Host, MOON};
-use crate::opening::{again, crawl, opened, push, query};
+use crate::opening::{crawl, opened, push, query};
 use gopher_catalogue::{Catalogue, Event, Hit, Status};
 use gopher_crew::{self, Blank, Calls, Crew, Pass, Share, Stop, WorkEnd, work};
 use std::marker::Brand;
