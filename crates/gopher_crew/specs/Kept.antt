@@ -1,13 +1,15 @@
 -- What the calls of a desk return, and of which records their notes are.
-use Rattle.std.specs.Prelude.{ℕ, ◌≡◌, ◌≢◌, List, [], ◌∷◌, ◌++◌, Option, None, Some, true, false, slice_get}
+use Rattle.std.specs.Prelude.{ℕ, ◌≡◌, ◌≢◌, List, [], ◌∷◌, ◌++◌, map, Option, None, Some, true, false, slice_get}
 use mathlib.Core.List.{IsPrefix}
 use Rattle.gopher_page.specs.Page.{PageData}
 use Rattle.gopher_catalogue.specs.declared.event.EventData.{EventData}
 use Rattle.gopher_catalogue.specs.declared.event.EventData.TheVariants.{Opened, Found, Failed}
+use Rattle.gopher_catalogue.specs.declared.event.Event.{Event}
 use Rattle.gopher_catalogue.specs.declared.event.Why.{Why}
 use Rattle.gopher_catalogue.specs.declared.fault.FoundFault.{FoundFault}
 use Rattle.gopher_catalogue.specs.Opening.{OpeningData}
 use Rattle.gopher_catalogue.specs.Fault.{IsFoundFault}
+use Rattle.gopher_catalogue.specs.EventOf.{event_data}
 use Rattle.gopher_catalogue.specs.Legal.{IsLegal}
 use Rattle.gopher_catalogue.specs.declared.frontier.sizes.Added.{Added}
 use Rattle.gopher_catalogue.specs.declared.frontier.sizes.Status.{Status}
@@ -95,3 +97,11 @@ IsStatusOf status record_ = (status ≡ status_of record_) × IsLegal record_
 -- the status of a legal record that begins with the one that a desk was opened with
 abbrev pub IsStatusAfter : List EventData → Status → Type 0
 IsStatusAfter opened status = Later opened (IsStatusOf status)
+
+-- these are the events of a legal record
+abbrev pub AreEventsOf : List Event → List EventData → Type 0
+AreEventsOf events record_ = (map event_data events ≡ record_) × IsLegal record_
+
+-- the events of a legal record that begins with the one that a desk was opened with
+abbrev pub IsRecordAfter : List EventData → List Event → Type 0
+IsRecordAfter opened events = Later opened (AreEventsOf events)

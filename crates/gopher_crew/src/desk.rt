@@ -7,7 +7,7 @@ ghost use Rattle.gopher_catalogue.specs.Turn.{turn_data};
 ghost use Rattle.gopher_crew.specs.Share.{Rises, RisesBy};
 ghost use Rattle.gopher_crew.specs.Desk.{are_counts, shares_at, AllHaveSeen, ComesBack, IsBlankOf, IsDeskFault, HasAll};
 ghost use Rattle.gopher_crew.specs.Publication.{ShowsRecord};
-ghost use Rattle.gopher_crew.specs.Kept.{rise_of, Later, Claims, Finds, Fails, RefusesFind, RefusesFailure, LetsClaim, IsNotIdle, IsOpeningOf, IsStatusOf, IsStatusAfter};
+ghost use Rattle.gopher_crew.specs.Kept.{rise_of, Later, Claims, Finds, Fails, RefusesFind, RefusesFailure, LetsClaim, IsNotIdle, IsOpeningOf, IsStatusOf, IsStatusAfter, IsRecordAfter};
 
 pub mod blank;
 pub mod closing;
@@ -28,7 +28,7 @@ use crate::publication::note::Note;
 use crate::publication::record_prefix::RecordPrefix;
 use crate::publication::{Publication, VersionWriter};
 use crate::working::memory::PageMemory;
-use gopher_catalogue::{Added, Catalogue, FailRefused, FoundRefused, Opening, Status, Turn, Why};
+use gopher_catalogue::{Added, Catalogue, Event, FailRefused, FoundRefused, Opening, Status, Turn, Why};
 use gopher_item::NoMemory;
 use gopher_page::Page;
 use std::alloc::Global;
@@ -341,6 +341,18 @@ impl<C: Crew, R: Wait + Drop> Desk<C, R> {
         ensures { IsStatusAfter self.now result }
     {
         self.kept.lock(rt).status_after(&self.opened)
+    }
+
+    /// Returns a copy of the record: every event so far, oldest first. Each shares its opening or
+    /// its page with the crawl. The record is legal, and begins with the one that the desk was opened
+    /// with. Workers wait for the copy, a few milliseconds for 100,000 events.
+    ///
+    /// # Errors
+    /// `NoMemory` (90).
+    pub fn record<W: Wait>(&self, rt: &W, alloc: Global) -> Result<Vec<Event>, NoMemory>
+        ensures { IfOk result (λ events. IsRecordAfter self.now events.items) }
+    {
+        self.kept.lock(rt).record_after(alloc, &self.opened)
     }
 
     /// Returns the number of places in each state. They are those of the record that the share then

@@ -1,13 +1,14 @@
 //! `Kept`: what a desk keeps behind its lock. Its calls are the steps of a crawl.
 
-ghost use Rattle.std.specs.Prelude.{◌≡◌, ◌+◌, ◌<◌, ◌^◌, true, false, None, [], ◌∷◌, ◌++◌, length, IfOk, IfErr, OnOk, OnErr};
+ghost use Rattle.std.specs.Prelude.{◌≡◌, ◌+◌, ◌<◌, ◌^◌, true, false, None, [], ◌∷◌, ◌++◌, length, map, IfOk, IfErr, OnOk, OnErr};
 ghost use mathlib.Core.List.{IsPrefix};
+ghost use Rattle.gopher_catalogue.specs.EventOf.{event_data};
 ghost use Rattle.gopher_catalogue.specs.Legal.{IsLegal};
 ghost use Rattle.gopher_catalogue.specs.Step.{status_of};
 ghost use Rattle.gopher_catalogue.specs.Turn.{turn_data};
 ghost use Rattle.gopher_crew.specs.Share.{Rises, RisesBy};
 ghost use Rattle.gopher_crew.specs.Desk.{events_of, CountTheSame, HasAll, HasAllSeen};
-ghost use Rattle.gopher_crew.specs.Kept.{IsNoted, IsCall, rise_of, Claims, Finds, Fails, RefusesFind, RefusesFailure, LetsClaim, IsStatusOf, IsStatusAfter};
+ghost use Rattle.gopher_crew.specs.Kept.{IsNoted, IsCall, rise_of, Claims, Finds, Fails, RefusesFind, RefusesFailure, LetsClaim, IsStatusOf, IsStatusAfter, IsRecordAfter};
 
 use crate::crew::Crew;
 use crate::desk::closing::join;
@@ -17,9 +18,10 @@ use crate::publication::note::Note;
 use crate::publication::record_prefix::RecordPrefix;
 use crate::working::merge_job::MergeJob;
 use crate::working::merging::Merging;
-use gopher_catalogue::{Added, Catalogue, FailRefused, FoundRefused, Status, Turn, Why};
+use gopher_catalogue::{Added, Catalogue, Event, FailRefused, FoundRefused, Status, Turn, Why};
 use gopher_item::NoMemory;
 use gopher_page::Page;
+use std::alloc::Global;
 use std::marker::Model;
 use std::sync::Wait;
 use std::sync::ledger::Book;
@@ -67,6 +69,17 @@ pub(crate) fn events_after_first(catalogue: &Catalogue) -> u64
     ensures { length catalogue.now ≡ result + 1 }
 {
     catalogue.record().len() as u64 - 1
+}
+
+// Copies events, each of which shares its opening or its page with the copy.
+fn copy_events(alloc: Global, events: &[Event]) -> Result<Vec<Event>, NoMemory>
+    ensures { IfOk result (λ it. map event_data it.items ≡ map event_data events.now) }
+{
+    let mut copies = Vec::with_capacity(alloc, events.len())?;
+    for event in events {
+        copies.push(event.clone()?)?;
+    }
+    Ok(copies)
 }
 
 impl<C: Crew, R: Wait + Drop> Kept<C, R> {
@@ -268,6 +281,22 @@ impl<C: Crew, R: Wait + Drop> Kept<C, R> {
     {
         self.until_begins(opened);
         self.status()
+    }
+
+    /// Copies the events of the record, which begins with those of this token.
+    ///
+    /// # Errors
+    /// `NoMemory` (90).
+    pub(crate) fn record_after(
+        &self,
+        alloc: Global,
+        opened: &RecordPrefix,
+    ) -> Result<Vec<Event>, NoMemory>
+        requires { opened.now.history ≡ C.history }
+        ensures { IfOk result (λ events. IsRecordAfter opened.now.events events.items) }
+    {
+        self.until_begins(opened);
+        copy_events(alloc, self.catalogue.record())
     }
 
     /// Returns the catalogue, and drops what is published.
