@@ -60,7 +60,8 @@ impl<C: Crew> MergeJob<C> {
     /// Returns the pages, if this record begins with the one that found them.
     pub fn due_in(self, prefix: &RecordPrefix) -> Option<Due>
         requires { prefix.now.history ≡ C.history }
-        ensures { IfSome result (λ due. IsSliceOf due (pages_found prefix.now.events)) }
+        ensures same { IfSome result (λ due. due ≡ self) }
+        ensures stands { IfSome result (λ due. IsSliceOf due (pages_found prefix.now.events)) }
     {
         let MergeJob {
             due,
