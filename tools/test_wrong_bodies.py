@@ -100,7 +100,7 @@ WRONG = (
     (edit("told", "next", "    number + 1", "    number + 2", "told: nobody waits for it"), "told: nobody waits for it"),
     (
         edit("never_true", "next", "    number + 1", "    number + 8", "case: contradictory", "given: let _number = number;", "holds: next(1) == 2"),
-        "NOT PROVED: 1 == 2 is proved from what its case requires",
+        "NOT PROVED: what it requires can't all hold",
     ),
     (
         edit("counts_once_more", "Counter::count", "    count: u32,", "    count: u32, more: u32,", "old:         Counter { count }", "new:         Counter { count, more: 1 }", "old:         self.count", "new:         self.count + self.more", "holds: Counter::new(1).count() == 1"),

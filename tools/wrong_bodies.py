@@ -15,7 +15,7 @@ it could refuse a right one, because its proof was written for another body.
 
 Each crate takes one check, of a copy with all witnesses, and one program, built without proofs, in which each function has its own
 body and all wrong ones, and a function in C says which of them runs. Functions that witnesses share, in setup.txt, are proved in the
-same check: if one isn't, no witness that calls it is. Nor is one if 1 == 2 is proved from what its case requires. Also judged are:
+same check: if one isn't, no witness that calls it is. Nor is one if what its case requires can't all hold. Also judged are:
 
 - Worked rows, which are an EXPR without an edit: proved and run.
 - Right bodies, which are edits that change no meaning: each EXPR of their function has to stay true.
@@ -31,7 +31,6 @@ lib` if one is missing or older than its sources. The line before the last count
 M failed'.
 """
 import argparse
-import copy
 import itertools
 import os
 import pathlib
@@ -223,16 +222,12 @@ def checked(crate, edits, items, cases, below):
         for file, text in items.items():
             source.add(file, text)
         asserted = lambda parts: [f"let holds = {part}; prove!(holds);" for part in parts]
-        controls = controls_of(edits, cases)
-        for edit in [*controls, *edits]:
+        for edit in edits:
             source.add(edit.file, edit.witness(asserted, cases), edit)
         source.write()
         shared = functions_of(items)
-        said = run(*words_of_check(source.folder, [*shared, *(edit.path() for edit in [*controls, *edits])]), folder=source.folder)
+        said = run(*words_of_check(source.folder, [*shared, *(edit.path() for edit in edits)]), folder=source.folder)
         blamed = source.blamed(said)
-        for control in controls:
-            why = blamed.pop(control, None) or ("" if lacking(crate, control.path(), said) else "1 == 2 is proved from what its case requires")
-            blamed.update({edit: why for edit in edits if why and edit.case == control.case})
         for path in shared:
             if why := lacking(crate, path, said):
                 uses = re.compile(rf"\b({'|'.join(callers_of(path.split('::')[-1], items))})\b")
@@ -250,18 +245,10 @@ def callers_of(name, items):
     return found
 
 
-def controls_of(edits, cases):
-    """For each case that requires something a witness that must not be proved: were its clauses contradictory, all would be."""
-    found = {}
-    for edit in edits:
-        if "requires" in cases[edit.case][0] and edit.case not in found:
-            control = found[edit.case] = copy.copy(edit)
-            control.name, control.given, control.holds = f"control_of_{edit.case}", [], ["1 == 2"]
-    return [*found.values()]
-
-
 def lacking(crate, path, said):
     """What a function lacks, as a check said; nothing if it is proved, but for what it calls."""
+    if f"no call of `{crate}::{path}` can meet its contract" in said:
+        return "what it requires can't all hold"
     found = re.search(rf"(?m)^fn {crate}::{re.escape(path)}: (proved|not proved|no proof: .*?|could not tell.*?)(?:, may wait)?$", said)
     if not found:
         return f"the check said nothing of it: {said[-1500:]}"

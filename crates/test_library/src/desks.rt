@@ -127,6 +127,17 @@ impl<C: Crew, R: Wait + Abort + AllocGlobal> Room<'_, C, R> {
         assert!(self.rt; self.first.begins_share(&self.share) && self.share.begins(&self.share));
     }
 
+    // The copy of the record has the opening and what the only share counts.
+    fn copies_record(&self) {
+        let events = again!(
+            self.rt,
+            self.may_refuse,
+            self.desk.record(self.rt, self.rt.alloc()).ok()
+        );
+        assert!(self.rt; events.len() as u64 == self.share.events() + 1);
+        assert!(self.rt; matches!(events.first(), Some(Event::Opened(_))));
+    }
+
     // A worker crawls the rest, and the desk is closed, whose first pass is left. A growth that is
     // refused fails one place, or stops the worker.
     fn end(self) -> Pass<C> {
@@ -192,6 +203,7 @@ fn check<C: Crew, R: Wait + Abort + AllocGlobal>(
         served(rt.alloc(), replies, &mut room.second, &LATE)
     );
     room.sees_status();
+    room.copies_record();
     let mut first = room.end();
     again!(
         rt,
