@@ -28,7 +28,9 @@ use crate::publication::note::Note;
 use crate::publication::record_prefix::RecordPrefix;
 use crate::publication::{Publication, VersionWriter};
 use crate::working::memory::PageMemory;
-use gopher_catalogue::{Added, Catalogue, Event, FailRefused, FoundRefused, Opening, Status, Turn, Why};
+use gopher_catalogue::{
+    Added, Catalogue, Event, FailRefused, FoundRefused, Opening, Status, Turn, Why,
+};
 use gopher_item::NoMemory;
 use gopher_page::Page;
 use std::alloc::Global;
