@@ -1,4 +1,5 @@
 pub mod Answer
+pub mod Cause
 pub mod Fetch
 pub mod Ending
 pub mod Fault

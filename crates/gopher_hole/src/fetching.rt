@@ -3,9 +3,11 @@
 
 ghost use Rattle.std.specs.Prelude.{◌≡◌};
 
+mod cause;
 mod exchange;
 
 use crate::failures::Failures;
+pub use cause::Cause;
 pub use exchange::fetch_over;
 use gopher_catalogue::Why;
 use gopher_crew::{Calls, Fetch};
