@@ -1,5 +1,8 @@
 pub mod Answer
 pub mod Cause
+pub mod Deadline
+pub mod Pauses
+pub mod Silences
 pub mod Fetch
 pub mod Ending
 pub mod Fault

@@ -1,7 +1,7 @@
 //! The sizes of a crawl, printed as it goes on.
 
 use crate::failures::Failures;
-use crate::fetching::CrawlFetch;
+use crate::fetching::{CrawlFetch, CrawlState};
 use gopher_catalogue::Status;
 use gopher_crew::{CrawlRefused, Crew, Desk, Share, WorkEnd, crawl};
 use std::alloc::Global;
@@ -116,8 +116,9 @@ pub fn crawl_and_tell<
     alloc: Global,
     desk: &Desk<C, R>,
     pairs: Vec<(CrawlFetch<'a>, Share<C>)>,
-    failures: &Failures,
+    state: &CrawlState,
 ) -> Result<Vec<WorkEnd<CrawlFetch<'a>, C>>, CrawlRefused<CrawlFetch<'a>, C>> {
+    let failures = &state.failures;
     if !failures.are_told {
         let crawled = crawl(rt, alloc, desk, pairs);
         tell_limit(rt, desk);
