@@ -1,6 +1,11 @@
 pub mod Answer
 pub mod Cause
-pub mod Fetch
+pub mod CrawlEnd
+pub mod Dropped
 pub mod Ending
 pub mod Fault
+pub mod Fetch
+pub mod Listing
+pub mod Outs
 pub mod Program
+pub mod Url

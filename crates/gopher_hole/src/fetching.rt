@@ -7,6 +7,7 @@ mod cause;
 mod exchange;
 
 use crate::failures::Failures;
+use crate::progress::outs::Outs;
 pub use cause::Cause;
 pub use exchange::fetch_over;
 use gopher_catalogue::Why;
@@ -18,6 +19,7 @@ use std::io::Eprint;
 use std::net::{Net, TcpListener, TcpStream};
 use std::str;
 use std::sync::Wait;
+use std::time::Clock;
 
 /// Fetches the replies of places, each over a connection of its own to the place's host and port.
 #[derive(Debug, Drop)]
@@ -73,16 +75,18 @@ impl<R: Net<Listener = TcpListener, Stream = TcpStream>> Fetch<R> for TcpFetch {
 pub struct CrawlFetch<'a> {
     fetcher: TcpFetch,
     failures: &'a Failures,
+    outs: &'a Outs,
 }
 
 impl<'a> CrawlFetch<'a> {
     /// Makes a fetcher that has fetched nothing yet.
-    pub fn new(failures: &'a Failures) -> CrawlFetch<'a>
+    pub fn new(failures: &'a Failures, outs: &'a Outs) -> CrawlFetch<'a>
         ensures { result.fetcher.calls ≡ 0 }
     {
         CrawlFetch {
             fetcher: TcpFetch::new(),
             failures,
+            outs,
         }
     }
 }
@@ -95,7 +99,7 @@ impl<'a> Calls for CrawlFetch<'a> {
     }
 }
 
-impl<'a, R: Net<Listener = TcpListener, Stream = TcpStream> + Wait + Eprint> Fetch<R>
+impl<'a, R: Net<Listener = TcpListener, Stream = TcpStream> + Clock + Wait + Eprint> Fetch<R>
     for CrawlFetch<'a> {
     fn fetch(
         &mut self,
@@ -104,9 +108,11 @@ impl<'a, R: Net<Listener = TcpListener, Stream = TcpStream> + Wait + Eprint> Fet
         place: &Place,
         limit: usize,
     ) -> Result<Vec<u8>, Why> {
+        self.outs.begin(rt, place);
         let fetched = self.fetcher.fetch(rt, alloc, place, limit);
+        self.outs.end(rt, place);
         if let Err(why) = &fetched {
-            self.failures.add(rt, place, *why);
+            self.failures.add(rt, place, *why, Cause::Unknown);
         }
         fetched
     }
