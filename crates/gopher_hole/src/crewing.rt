@@ -12,7 +12,7 @@ use crate::fault::ProgramFault;
 use crate::fetching::{CrawlFetch, CrawlState};
 use crate::listening::listen;
 use crate::opening::{Opened, open, read_settings};
-use crate::progress::crawl_and_tell;
+use crate::progress::{Reporting, crawl_and_tell};
 use crate::starting::{AnyEnd, Started, ThreadsEnd, join_all, start_threads};
 use gopher_catalogue::Status;
 use gopher_crew::{Blank, Crew, Desk, Pass, Share, WorkEnd};
@@ -117,17 +117,17 @@ fn start<C: Crew + Send + Sync + 'static, R: System + Net>(
 fn crawl_to_end<
     'a,
     C: Crew + Send + Sync + 'static,
-    R: System + Net<Listener = NetListener, Stream = TcpStream>,
+    R: System + Files + Net<Listener = NetListener, Stream = TcpStream>,
 >(
     rt: &R,
     alloc: Global,
     started: Result<Started<AnyEnd>, ProgramFault>,
     desk: &Desk<C, &R>,
     pairs: Vec<(CrawlFetch<'a>, Share<C>)>,
-    state: &CrawlState,
+    reporting: Reporting<'_>,
 ) -> Result<Vec<WorkEnd<CrawlFetch<'a>, C>>, ProgramFault> {
     let started = started?;
-    let crawled = crawl_and_tell(rt, alloc, desk, pairs, state);
+    let crawled = crawl_and_tell(rt, alloc, desk, pairs, reporting);
     wait_for_all(rt, started, crawled)
 }
 
@@ -186,7 +186,7 @@ fn open_listeners<R: Net + Env + Eprint + AllocGlobal, W: Write>(
 fn listen_and_serve<
     'a,
     C: Crew + Send + Sync + 'static,
-    R: System + Net<Listener = NetListener, Stream = TcpStream>,
+    R: System + Files + Net<Listener = NetListener, Stream = TcpStream>,
     W: Write,
 >(
     rt: &R,
@@ -195,7 +195,7 @@ fn listen_and_serve<
     replies: Replies,
     passes: Vec<Pass<C>>,
     pairs: Vec<(CrawlFetch<'a>, Share<C>)>,
-    state: &CrawlState,
+    reporting: Reporting<'_>,
     output: &mut Watched<W>,
 ) -> Result<Vec<WorkEnd<CrawlFetch<'a>, C>>, ProgramFault>
     ensures { OnOk result (HasSent W.contents output.old output.new (listening_line replies.home)) }
@@ -221,7 +221,7 @@ fn listen_and_serve<
         tells: serving.progress,
     };
     let started = start(rt, alloc, server, replies, passes);
-    let ended = crawl_to_end(rt, alloc, started, desk, pairs, state);
+    let ended = crawl_to_end(rt, alloc, started, desk, pairs, reporting);
     end_log(rt, alloc, log);
     ended
 }
@@ -230,7 +230,7 @@ fn listen_and_serve<
 // in each state.
 fn serve_and_close<
     C: Crew + Send + Sync + 'static,
-    R: System + Net<Listener = NetListener, Stream = TcpStream>,
+    R: System + Files + Net<Listener = NetListener, Stream = TcpStream>,
     W: Write,
 >(
     rt: &R,
@@ -239,15 +239,15 @@ fn serve_and_close<
     desk: Desk<C, &R>,
     passes: Vec<Pass<C>>,
     shares: Vec<Share<C>>,
-    state: &CrawlState,
+    reporting: Reporting<'_>,
     out: &mut Watched<W>,
 ) -> Result<Status, ProgramFault>
     ensures line { OnOk result (HasSent W.contents out.old out.new (listening_line replies.home)) }
     ensures status { IfOk result (IsStatusAfter desk.entry) }
 {
     let alloc = rt.alloc();
-    let pairs = pairs_of(alloc, shares, state)?;
-    let ends = listen_and_serve(rt, serving, &desk, replies, passes, pairs, state, out)?;
+    let pairs = pairs_of(alloc, shares, reporting.state)?;
+    let ends = listen_and_serve(rt, serving, &desk, replies, passes, pairs, reporting, out)?;
     close(alloc, desk, ends)
 }
 
@@ -277,6 +277,10 @@ pub fn serve<
     let alloc = rt.alloc();
     let settings = read_settings(rt, alloc, serving.settings)?;
     let state = CrawlState::new(alloc, &settings.home, settings.tries, serving)?;
+    let reporting = Reporting {
+        state: &state,
+        list_found: serving.list_found,
+    };
     let opened = open::<C, R>(rt, alloc, settings, blank)?;
     let Opened {
         replies,
@@ -284,6 +288,8 @@ pub fn serve<
         passes,
         shares,
     } = opened;
-    let status = serve_and_close(rt, serving, replies, desk, passes, shares, &state, output)?;
+    let status = serve_and_close(
+        rt, serving, replies, desk, passes, shares, reporting, output,
+    )?;
     tell_status(alloc, status, output)
 }

@@ -129,7 +129,10 @@ fn fetch_and_note<R: Net + Clock + Wait + Eprint>(
     };
     let begun = state.begin(rt, &host)?;
     let deadline = Deadline::new(begun.began, state.timeout);
-    match fetch_before(rt, alloc, place, limit, deadline) {
+    state.outs.begin(rt, place);
+    let fetched = fetch_before(rt, alloc, place, limit, deadline);
+    state.outs.end(rt, place);
+    match fetched {
         Ok(reply) => {
             state.end(rt, host, place, begun, None);
             Ok(reply)
@@ -179,8 +182,9 @@ impl<'a, R: Net<Listener = TcpListener, Stream = TcpStream> + Clock + Wait + Epr
         match fetch_and_note(rt, alloc, self.state, place, limit) {
             Ok(reply) => Ok(reply),
             Err(failure) => {
-                self.state.failures.add(rt, place, failure.why);
-                Err(failure.why)
+                let Failure { why, cause } = failure;
+                self.state.failures.add(rt, place, why, cause);
+                Err(why)
             }
         }
     }

@@ -8,6 +8,8 @@ use crate::failures::Failures;
 use crate::fetching::cause::Cause;
 use crate::fetching::pauses::Pauses;
 use crate::fetching::silences::{FetchEnd, MAX_TIMEOUTS, Permit, Silences};
+use crate::progress::outs::Outs;
+use crate::progress::urls::HostPort;
 use gopher_catalogue::Why;
 use gopher_item::{Home, NoMemory, Place};
 use std::alloc::Global;
@@ -20,12 +22,14 @@ use std::time::{Clock, Duration, Instant};
 // with it then have timed out too, before it asks the host again.
 const REST: u64 = 1;
 
-/// What the workers of a crawl share: the failed places, the hosts that time out, and when the next
-/// fetch of a host may begin.
+/// What the workers of a crawl share: the places that failed and those that are being fetched, the
+/// hosts that time out, and when the next fetch of a host may begin.
 #[derive(Drop)]
 pub struct CrawlState {
     /// The places that failed.
     pub failures: Failures,
+    /// The places that are being fetched.
+    pub outs: Outs,
     /// After how many seconds without progress a fetch fails; 0 if it never does.
     pub timeout: u64,
     // The least time between the beginnings of two fetches of a host.
@@ -84,11 +88,10 @@ fn given_up(why: Why) -> Failure {
     }
 }
 
-// Prints that the host of a place is given up. No byte of it reaches a terminal unless it is
-// printable.
+// Prints that the host of a place is given up.
 fn print_given_up(rt: &impl Eprint, place: &Place) {
-    let (host, port) = (place.host().escape_ascii(), place.port());
-    let _ = eprintln!(rt; "hole: host given up: {host}:{port} ({MAX_TIMEOUTS} time-outs)");
+    let host = HostPort::of(place);
+    let _ = eprintln!(rt; "hole: host given up: {host} ({MAX_TIMEOUTS} time-outs)");
 }
 
 impl CrawlState {
@@ -108,6 +111,7 @@ impl CrawlState {
         };
         Ok(CrawlState {
             failures: Failures::new(alloc, tries, serving.progress),
+            outs: Outs::new(alloc, serving.progress),
             timeout: serving.fetch_timeout,
             pause: Duration::from_millis(serving.fetch_pause),
             own,
