@@ -8,12 +8,10 @@ ghost use Rattle.gopher_crew.specs.Kept.{IsStatusAfter};
 
 use crate::announcing::{tell_listening, tell_status};
 use crate::arguments::Serving;
-use crate::failures::Failures;
 use crate::fault::ProgramFault;
-use crate::fetching::CrawlFetch;
+use crate::fetching::{CrawlFetch, CrawlState};
 use crate::listening::listen;
 use crate::opening::{Opened, open, read_settings};
-use crate::progress::outs::Outs;
 use crate::progress::{Reporting, crawl_and_tell};
 use crate::starting::{AnyEnd, Started, ThreadsEnd, join_all, start_threads};
 use gopher_catalogue::Status;
@@ -46,14 +44,13 @@ impl<R: Threaded + Env + AllocGlobal + Send + Sync + Drop + 'static> System for 
 fn pairs_of<'a, C: Crew>(
     alloc: Global,
     shares: Vec<Share<C>>,
-    failures: &'a Failures,
-    outs: &'a Outs,
+    state: &'a CrawlState,
 ) -> Result<Vec<(CrawlFetch<'a>, Share<C>)>, NoMemory>
     ensures { IfOk result (λ pairs. vec_len pairs ≡ vec_len shares) }
 {
     let mut pairs = Vec::with_capacity(alloc, shares.len())?;
     for share in shares {
-        pairs.push((CrawlFetch::new(failures, outs), share))?;
+        pairs.push((CrawlFetch::new(state), share))?;
     }
     Ok(pairs)
 }
@@ -249,7 +246,7 @@ fn serve_and_close<
     ensures status { IfOk result (IsStatusAfter desk.entry) }
 {
     let alloc = rt.alloc();
-    let pairs = pairs_of(alloc, shares, reporting.failures, reporting.outs)?;
+    let pairs = pairs_of(alloc, shares, reporting.state)?;
     let ends = listen_and_serve(rt, serving, &desk, replies, passes, pairs, reporting, out)?;
     close(alloc, desk, ends)
 }
@@ -279,11 +276,9 @@ pub fn serve<
 {
     let alloc = rt.alloc();
     let settings = read_settings(rt, alloc, serving.settings)?;
-    let failures = Failures::new(alloc, settings.tries, serving.progress);
-    let outs = Outs::new(alloc, serving.progress);
+    let state = CrawlState::new(alloc, &settings.home, settings.tries, serving)?;
     let reporting = Reporting {
-        failures: &failures,
-        outs: &outs,
+        state: &state,
         list_found: serving.list_found,
     };
     let opened = open::<C, R>(rt, alloc, settings, blank)?;

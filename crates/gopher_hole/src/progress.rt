@@ -7,7 +7,7 @@ pub mod outs;
 pub mod urls;
 
 use crate::failures::Failures;
-use crate::fetching::CrawlFetch;
+use crate::fetching::{CrawlFetch, CrawlState};
 use crate::progress::dropped::most_dropped;
 use crate::progress::ending::{CrawlEnd, found_places};
 use crate::progress::listing::write_list;
@@ -37,10 +37,8 @@ const MAX_SLOW: u32 = 32;
 /// What a crawl prints.
 #[derive(Clone, Copy)]
 pub struct Reporting<'a> {
-    /// The places that failed; they say whether anything but the list is printed.
-    pub failures: &'a Failures,
-    /// The places that are being fetched.
-    pub outs: &'a Outs,
+    /// What its workers share. Its failures say whether anything but the list is printed.
+    pub state: &'a CrawlState,
     /// The path of the list of the places that were found; `None` if none is written.
     pub list_found: Option<&'a str>,
 }
@@ -125,12 +123,12 @@ fn tell_until_over<C: Crew, R: Wait + Drop, W: Wait + Clock + Eprint>(
     reporting: Reporting<'_>,
     is_over: &AtomicBool,
 ) {
-    let failures = reporting.failures;
+    let failures = &reporting.state.failures;
     let mut told = None;
     let mut is_limit_told = false;
     let mut stopped = 0;
     for _round in rt.forever() {
-        let was_over = wait_for_end(rt, desk, reporting.outs, is_over, &mut stopped);
+        let was_over = wait_for_end(rt, desk, &reporting.state.outs, is_over, &mut stopped);
         let (status, failed) = (desk.status(rt), failures.count());
         if told != Some((status, failed)) {
             tell(rt, status, failed);
@@ -219,7 +217,7 @@ fn report_end<C: Crew, R: Wait + Drop, W: Wait + Clock + Eprint + Files>(
     reporting: Reporting<'_>,
     began: io::Result<Instant>,
 ) {
-    let failures = reporting.failures;
+    let failures = &reporting.state.failures;
     if !failures.are_told && reporting.list_found.is_none() {
         return;
     }
@@ -286,7 +284,7 @@ pub fn crawl_and_tell<
     reporting: Reporting<'_>,
 ) -> Result<Vec<WorkEnd<CrawlFetch<'a>, C>>, CrawlRefused<CrawlFetch<'a>, C>> {
     let began = Instant::now(rt);
-    let crawled = if reporting.failures.are_told {
+    let crawled = if reporting.state.failures.are_told {
         crawl_beside(rt, alloc, desk, pairs, reporting)
     } else {
         let crawled = crawl(rt, alloc, desk, pairs);
