@@ -1,5 +1,10 @@
--- The most of several numbers.
-use Rattle.std.specs.Prelude.{◌≡◌, ℕ, ◌<◌, ◌≤◌, List, [], length, Option, MatchOption, slice_index}
+-- The links that a crawl dropped, and the most of several numbers.
+use Rattle.std.specs.Prelude.{◌≡◌, ℕ, ◌<◌, ◌≤◌, Bool, not, List, [], length, Option, MatchOption, slice_index}
+use Rattle.gopher_item.specs.Place.{PlaceData, is_among}
+
+-- a link leads to none of the known places
+abbrev pub is_unknown : List PlaceData → PlaceData → Bool
+is_unknown known link = not (is_among known link)
 
 -- the index of the greatest number, the first of several
 pub record IsGreatest (numbers : List ℕ) (index : ℕ) : Type 0 where

@@ -1,13 +1,11 @@
 //! `most_dropped`: the server whose menus named most of the links that a crawl dropped.
 
-ghost use Rattle.std.specs.Prelude.{◌≡◌, not, count_by, OnOk, IfOk};
-ghost use Rattle.gopher_item.specs.Place.{is_among};
+ghost use Rattle.std.specs.Prelude.{◌≡◌, count_by, OnOk, IfOk};
 ghost use Rattle.gopher_catalogue.specs.Tables.{after_mention, after_mentions};
-ghost use Rattle.gopher_hole.specs.Dropped.{IsMost};
+ghost use Rattle.gopher_hole.specs.Dropped.{IsMost, is_unknown};
 
 use gopher_catalogue::Event;
-use gopher_item::{ItemFault, NoMemory, Place};
-use gopher_page::Page;
+use gopher_item::{ItemFault, NoMemory, Place, Places};
 use indexmap::{IndexMap, IndexSet};
 use std::alloc::Global;
 
@@ -45,12 +43,12 @@ fn add_links(
     alloc: Global,
     known: &mut IndexSet<Place>,
     limit: usize,
-    page: &Page,
+    links: &Places,
 ) -> Result<(), NoMemory>
-    ensures { OnOk result (known.new.keys ≡ after_mentions limit known.old.keys page.now.links) }
+    ensures { OnOk result (known.new.keys ≡ after_mentions limit known.old.keys links.now) }
 {
-    for link in page.links() {
-        add_mention(known, limit, link.to_place(alloc)?)?;
+    for index in 0..links.len() {
+        add_mention(known, limit, links.get(index).to_place(alloc)?)?;
     }
     Ok(())
 }
@@ -66,7 +64,9 @@ fn known_places(alloc: Global, events: &[Event]) -> Result<IndexSet<Place>, NoMe
                 add_seeds(&mut known, limit, opening.seeds())?;
             }
             Event::Found(_, page) if known.len() < limit => {
-                add_links(alloc, &mut known, limit, page)?;
+                if let Some(links) = page.packed_links() {
+                    add_links(alloc, &mut known, limit, links)?;
+                }
             }
             _ => {}
         }
@@ -74,18 +74,17 @@ fn known_places(alloc: Global, events: &[Event]) -> Result<IndexSet<Place>, NoMe
     Ok(known)
 }
 
-// How many links of a page are not among the known places.
-fn unknown_links(alloc: Global, known: &IndexSet<Place>, page: &Page) -> Result<u64, NoMemory>
-    ensures { IfOk result (λ links.
-        links ≡ count_by (λ link. not (is_among known.now.keys link)) page.now.links) }
+// How many of the links of a page are not among the known places.
+fn unknown_links(alloc: Global, known: &IndexSet<Place>, links: &Places) -> Result<u64, NoMemory>
+    ensures { IfOk result (λ unknown. unknown ≡ count_by (is_unknown known.now.keys) links.now) }
 {
-    let mut links = 0;
-    for link in page.links() {
-        if !known.contains(&link.to_place(alloc)?) {
-            links += 1;
+    let mut unknown = 0;
+    for index in 0..links.len() {
+        if !known.contains(&links.get(index).to_place(alloc)?) {
+            unknown += 1;
         }
     }
-    Ok(links)
+    Ok(unknown)
 }
 
 // The main menu of a place's server.
@@ -97,22 +96,35 @@ fn server_of(alloc: Global, place: &Place) -> Result<Place, NoMemory> {
     }
 }
 
+// Adds how many links of a menu were dropped to those of its server.
+fn add_dropped(
+    alloc: Global,
+    servers: &mut IndexMap<Place, u64>,
+    menu: &Place,
+    links: u64,
+) -> Result<(), NoMemory> {
+    if links > 0 {
+        let server = server_of(alloc, menu)?;
+        let before = servers.get(&server).copied().unwrap_or(0);
+        servers.insert(server, before.saturating_add(links))?;
+    }
+    Ok(())
+}
+
 // How many links of each server's menus are not among the known places, in the order in which the
-// servers' menus were found.
+// first of those menus was found.
 fn dropped_links(
     alloc: Global,
     known: &IndexSet<Place>,
     events: &[Event],
 ) -> Result<IndexMap<Place, u64>, NoMemory> {
-    let mut servers: IndexMap<Place, u64> = IndexMap::new(alloc);
+    let mut servers = IndexMap::new(alloc);
     for event in events {
-        if let Event::Found(_, page) = event {
-            let links = unknown_links(alloc, known, page)?;
-            if links > 0 {
-                let server = server_of(alloc, page.place())?;
-                let before = servers.get(&server).copied().unwrap_or(0);
-                servers.insert(server, before.saturating_add(links))?;
-            }
+        if let Event::Found(_, page) = event
+            && let Some(links) = page.packed_links()
+        {
+            let dropped = unknown_links(alloc, known, links)?;
+            add_dropped(alloc, &mut servers, page.place(), dropped)?;
         }
     }
     Ok(servers)

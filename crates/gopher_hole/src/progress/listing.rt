@@ -5,7 +5,7 @@ ghost use Rattle.gopher_hole.specs.Listing.{IsFoundLine, shown_byte};
 
 use crate::progress::urls::PlaceUrl;
 use gopher_catalogue::Event;
-use gopher_item::NoMemory;
+use gopher_item::{NoMemory, is_control};
 use gopher_page::Page;
 use std::alloc::Global;
 use std::fs::{self, Files};
@@ -15,7 +15,7 @@ use std::io::{self, BufWriter, ErrorKind, Write};
 fn shown_byte(byte: u8) -> u8
     ensures { result ≡ shown_byte byte }
 {
-    if byte < 32 || byte == 127 { b'?' } else { byte }
+    if is_control(byte) { b'?' } else { byte }
 }
 
 // Appends a title to a line.
