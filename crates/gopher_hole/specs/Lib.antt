@@ -1,5 +1,14 @@
 pub mod Answer
-pub mod Fetch
+pub mod Cause
+pub mod CrawlEnd
+pub mod Deadline
+pub mod Dropped
 pub mod Ending
 pub mod Fault
+pub mod Fetch
+pub mod Listing
+pub mod Outs
+pub mod Pauses
 pub mod Program
+pub mod Silences
+pub mod Url

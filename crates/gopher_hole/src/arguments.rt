@@ -12,6 +12,15 @@ const VERSION: &str = "0.2.0";
 // The greatest number of connections after which a server may end.
 const MAX_REQUESTS: i64 = 1_000_000;
 
+// The most seconds after which a fetch that makes no progress fails: a day.
+const MAX_FETCH_TIMEOUT: i64 = 86_400;
+
+// The seconds after which such a fetch fails if the arguments name none.
+const DEFAULT_FETCH_TIMEOUT: u64 = 60;
+
+// The most milliseconds between the beginnings of two fetches of one host: an hour.
+const MAX_FETCH_PAUSE: i64 = 3_600_000;
+
 /// What the arguments ask for.
 #[derive(Debug, Drop)]
 pub enum Asked<'a> {
@@ -59,6 +68,12 @@ pub struct Serving<'a> {
     pub progress: bool,
     /// How many bytes the pages of the crawl may take; `None` if there is no limit.
     pub crawl_memory: Option<u64>,
+    /// After how many seconds without progress a fetch fails; 0 if it never does.
+    pub fetch_timeout: u64,
+    /// The least milliseconds between the beginnings of two fetches of one host and port.
+    pub fetch_pause: u64,
+    /// The path of the list of found places; `None` if none is written.
+    pub list_found: Option<&'a str>,
     /// Where the server listens; port 0 stands for the settings' port. If there are none, it
     /// listens at the addresses of the settings' host.
     pub addresses: Vec<SocketAddr>,
@@ -78,6 +93,23 @@ fn progress_argument<'a>(alloc: Global) -> Arg<'a> {
         .long("progress")
         .action(ArgAction::SetTrue)
         .help("Print what fails, and the progress of the crawl, on standard error")
+}
+
+fn timeout_argument<'a>(alloc: Global) -> Arg<'a> {
+    let help = "Give up a fetch that makes no progress for this long (60; 0: never)";
+    let seconds = value_parser!(u64).range(0..=MAX_FETCH_TIMEOUT);
+    option(alloc, "fetch-timeout", "SECONDS", help).value_parser(seconds)
+}
+
+fn pause_argument<'a>(alloc: Global) -> Arg<'a> {
+    let help = "Wait at least this long between two fetches of another host (0)";
+    let milliseconds = value_parser!(u64).range(0..=MAX_FETCH_PAUSE);
+    option(alloc, "fetch-pause", "MILLISECONDS", help).value_parser(milliseconds)
+}
+
+fn list_argument<'a>(alloc: Global) -> Arg<'a> {
+    let help = "Write the found places to this file when the crawl is over";
+    option(alloc, "list-found", "FILE", help)
 }
 
 fn settings_argument<'a>(alloc: Global) -> Arg<'a> {
@@ -111,6 +143,9 @@ fn serve_command<'a>(alloc: Global) -> Result<Command<'a>, AllocError> {
         option(alloc, "log", "FILE", log),
         progress_argument(alloc),
         option(alloc, "crawl-memory", "BYTES", memory),
+        timeout_argument(alloc),
+        pause_argument(alloc),
+        list_argument(alloc),
     ]?;
     Command::new(alloc, "serve")
         .about("Serve a folder, crawl the allowed hosts and answer searches")
@@ -253,6 +288,13 @@ fn read_check<'a>(alloc: Global, check: &ArgMatches<'a>) -> Result<Asked<'a>, No
     }
 }
 
+// After how many seconds without progress a fetch fails.
+fn seconds_of(serve: &ArgMatches<'_>) -> u64 {
+    serve
+        .get_one::<u64>("fetch-timeout")
+        .unwrap_or(DEFAULT_FETCH_TIMEOUT)
+}
+
 // The arguments of `serve`, or the text about a bad one.
 fn read_serve<'a>(alloc: Global, serve: &ArgMatches<'a>) -> Result<Asked<'a>, NoMemory> {
     let Some(settings) = serve.get_str("SETTINGS") else {
@@ -275,6 +317,9 @@ fn read_serve<'a>(alloc: Global, serve: &ArgMatches<'a>) -> Result<Asked<'a>, No
         log: serve.get_str("log"),
         progress: serve.get_flag("progress"),
         crawl_memory,
+        fetch_timeout: seconds_of(serve),
+        fetch_pause: serve.get_one::<u64>("fetch-pause").unwrap_or(0),
+        list_found: serve.get_str("list-found"),
         addresses,
     }))
 }

@@ -8,12 +8,11 @@ ghost use Rattle.gopher_crew.specs.Kept.{IsStatusAfter};
 
 use crate::announcing::{tell_listening, tell_status};
 use crate::arguments::Serving;
-use crate::failures::Failures;
 use crate::fault::ProgramFault;
-use crate::fetching::CrawlFetch;
+use crate::fetching::{CrawlFetch, CrawlState};
 use crate::listening::listen;
 use crate::opening::{Opened, open, read_settings};
-use crate::progress::crawl_and_tell;
+use crate::progress::{Reporting, crawl_and_tell};
 use crate::starting::{AnyEnd, Started, ThreadsEnd, join_all, start_threads};
 use gopher_catalogue::Status;
 use gopher_crew::{Blank, Crew, Desk, Pass, Share, WorkEnd};
@@ -45,13 +44,13 @@ impl<R: Threaded + Env + AllocGlobal + Send + Sync + Drop + 'static> System for 
 fn pairs_of<'a, C: Crew>(
     alloc: Global,
     shares: Vec<Share<C>>,
-    failures: &'a Failures,
+    state: &'a CrawlState,
 ) -> Result<Vec<(CrawlFetch<'a>, Share<C>)>, NoMemory>
     ensures { IfOk result (λ pairs. vec_len pairs ≡ vec_len shares) }
 {
     let mut pairs = Vec::with_capacity(alloc, shares.len())?;
     for share in shares {
-        pairs.push((CrawlFetch::new(failures), share))?;
+        pairs.push((CrawlFetch::new(state), share))?;
     }
     Ok(pairs)
 }
@@ -118,17 +117,17 @@ fn start<C: Crew + Send + Sync + 'static, R: System + Net>(
 fn crawl_to_end<
     'a,
     C: Crew + Send + Sync + 'static,
-    R: System + Net<Listener = NetListener, Stream = TcpStream>,
+    R: System + Files + Net<Listener = NetListener, Stream = TcpStream>,
 >(
     rt: &R,
     alloc: Global,
     started: Result<Started<AnyEnd>, ProgramFault>,
     desk: &Desk<C, &R>,
     pairs: Vec<(CrawlFetch<'a>, Share<C>)>,
-    failures: &Failures,
+    reporting: Reporting<'_>,
 ) -> Result<Vec<WorkEnd<CrawlFetch<'a>, C>>, ProgramFault> {
     let started = started?;
-    let crawled = crawl_and_tell(rt, alloc, desk, pairs, failures);
+    let crawled = crawl_and_tell(rt, alloc, desk, pairs, reporting);
     wait_for_all(rt, started, crawled)
 }
 
@@ -187,7 +186,7 @@ fn open_listeners<R: Net + Env + Eprint + AllocGlobal, W: Write>(
 fn listen_and_serve<
     'a,
     C: Crew + Send + Sync + 'static,
-    R: System + Net<Listener = NetListener, Stream = TcpStream>,
+    R: System + Files + Net<Listener = NetListener, Stream = TcpStream>,
     W: Write,
 >(
     rt: &R,
@@ -196,7 +195,7 @@ fn listen_and_serve<
     replies: Replies,
     passes: Vec<Pass<C>>,
     pairs: Vec<(CrawlFetch<'a>, Share<C>)>,
-    failures: &Failures,
+    reporting: Reporting<'_>,
     output: &mut Watched<W>,
 ) -> Result<Vec<WorkEnd<CrawlFetch<'a>, C>>, ProgramFault>
     ensures { OnOk result (HasSent W.contents output.old output.new (listening_line replies.home)) }
@@ -222,7 +221,7 @@ fn listen_and_serve<
         tells: serving.progress,
     };
     let started = start(rt, alloc, server, replies, passes);
-    let ended = crawl_to_end(rt, alloc, started, desk, pairs, failures);
+    let ended = crawl_to_end(rt, alloc, started, desk, pairs, reporting);
     end_log(rt, alloc, log);
     ended
 }
@@ -231,7 +230,7 @@ fn listen_and_serve<
 // in each state.
 fn serve_and_close<
     C: Crew + Send + Sync + 'static,
-    R: System + Net<Listener = NetListener, Stream = TcpStream>,
+    R: System + Files + Net<Listener = NetListener, Stream = TcpStream>,
     W: Write,
 >(
     rt: &R,
@@ -240,15 +239,15 @@ fn serve_and_close<
     desk: Desk<C, &R>,
     passes: Vec<Pass<C>>,
     shares: Vec<Share<C>>,
-    failures: &Failures,
+    reporting: Reporting<'_>,
     out: &mut Watched<W>,
 ) -> Result<Status, ProgramFault>
     ensures line { OnOk result (HasSent W.contents out.old out.new (listening_line replies.home)) }
     ensures status { IfOk result (IsStatusAfter desk.entry) }
 {
     let alloc = rt.alloc();
-    let pairs = pairs_of(alloc, shares, failures)?;
-    let ends = listen_and_serve(rt, serving, &desk, replies, passes, pairs, failures, out)?;
+    let pairs = pairs_of(alloc, shares, reporting.state)?;
+    let ends = listen_and_serve(rt, serving, &desk, replies, passes, pairs, reporting, out)?;
     close(alloc, desk, ends)
 }
 
@@ -277,7 +276,11 @@ pub fn serve<
 {
     let alloc = rt.alloc();
     let settings = read_settings(rt, alloc, serving.settings)?;
-    let failures = Failures::new(alloc, settings.tries, serving.progress);
+    let state = CrawlState::new(alloc, &settings.home, settings.tries, serving)?;
+    let reporting = Reporting {
+        state: &state,
+        list_found: serving.list_found,
+    };
     let opened = open::<C, R>(rt, alloc, settings, blank)?;
     let Opened {
         replies,
@@ -286,7 +289,7 @@ pub fn serve<
         shares,
     } = opened;
     let status = serve_and_close(
-        rt, serving, replies, desk, passes, shares, &failures, output,
+        rt, serving, replies, desk, passes, shares, reporting, output,
     )?;
     tell_status(alloc, status, output)
 }

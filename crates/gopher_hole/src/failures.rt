@@ -3,11 +3,13 @@
 ghost use Rattle.std.specs.Prelude.{◌≡◌};
 ghost use Rattle.gopher_hole.specs.Fault.{is_last_try, reason_name};
 
+use crate::fetching::Cause;
+use crate::progress::urls::PlaceUrl;
 use gopher_catalogue::Why;
 use gopher_item::Place;
 use indexmap::IndexMap;
 use std::alloc::Global;
-use std::io::Eprint;
+use std::io::{self, Eprint};
 use std::sync::atomic::{AtomicU64, Ordering};
 use std::sync::{Mutex, Wait};
 
@@ -47,18 +49,18 @@ fn reason_name(why: Why) -> &'static str
     }
 }
 
-// Prints the line of a place that failed. No byte of the place reaches a terminal unless it is
-// printable.
-fn print_failure(rt: &impl Eprint, place: &Place, why: Why) {
-    let (name, code) = (reason_name(why), why.code());
-    let (kind, host) = ([place.kind()], place.host());
-    let (port, selector) = (place.port(), place.selector());
-    let (kind, host, selector) = (
-        kind.escape_ascii(),
-        host.escape_ascii(),
-        selector.escape_ascii(),
-    );
-    let _ = eprintln!(rt; "hole: failed: {name} {code}: {kind} {host} {port} {selector}");
+// Prints the line of a place that failed: its URL, the reason, and what stopped the fetch in words,
+// if there are some. No byte of the place reaches a terminal unless it is printable.
+fn print_failure(rt: &impl Eprint, place: &Place, why: Why, cause: Cause) {
+    let (url, reason, words) = (PlaceUrl::of(place), reason_name(why), cause.words());
+    let _ = match cause {
+        Cause::Unknown => eprintln!(rt; "hole: failed: {url}: {reason}"),
+        Cause::System(number) => {
+            let error = io::Error::from_raw_os_error(number);
+            eprintln!(rt; "hole: failed: {url}: {reason}: {error}")
+        }
+        _ => eprintln!(rt; "hole: failed: {url}: {reason}: {words}"),
+    };
 }
 
 impl Failures {
@@ -94,15 +96,15 @@ impl Failures {
     }
 
     /// Adds a failed fetch of a place, if failures are printed. If the place isn't tried again,
-    /// counts it, and prints it with the reason on the error stream, unless 1,000 places were
-    /// printed before.
-    pub fn add<R: Wait + Eprint>(&self, rt: &R, place: &Place, why: Why) {
+    /// counts it, and prints it with the reason and the cause on the error stream, unless 1,000
+    /// places were printed before.
+    pub fn add<R: Wait + Eprint>(&self, rt: &R, place: &Place, why: Why, cause: Cause) {
         if !self.are_told {
             return;
         }
         let is_last = is_last_try(0, self.tries) || self.count_try(rt, place);
         if is_last && self.failed.fetch_add(1, Ordering::SeqCst) < MAX_PRINTED {
-            print_failure(rt, place, why);
+            print_failure(rt, place, why, cause);
         }
     }
 

@@ -1,22 +1,47 @@
-//! The sizes of a crawl, printed as it goes on.
+//! What a crawl prints of itself as it goes on and at its end.
+
+pub mod dropped;
+pub mod ending;
+pub mod listing;
+pub mod outs;
+pub mod urls;
 
 use crate::failures::Failures;
-use crate::fetching::CrawlFetch;
-use gopher_catalogue::Status;
+use crate::fetching::{CrawlFetch, CrawlState};
+use crate::progress::dropped::most_dropped;
+use crate::progress::ending::{CrawlEnd, found_places};
+use crate::progress::listing::write_list;
+use crate::progress::outs::Outs;
+use crate::progress::urls::{HostPort, PlaceUrl};
+use gopher_catalogue::{Event, Status};
 use gopher_crew::{CrawlRefused, Crew, Desk, Share, WorkEnd, crawl};
+use gopher_item::NoMemory;
 use std::alloc::Global;
-use std::io::Eprint;
+use std::fs::Files;
+use std::io::{self, Eprint, ErrorKind};
 use std::net::{Net, TcpListener, TcpStream};
 use std::sync::Wait;
 use std::sync::atomic::{AtomicBool, Ordering};
 use std::thread::{self, Threads};
-use std::time::{Clock, Duration};
+use std::time::{Clock, Duration, Instant};
 
 // The sizes are printed again after this many rests.
 const RESTS: u32 = 100;
 
 // The milliseconds of a rest.
 const REST: u64 = 100;
+
+// The most places that are printed as slow at once: more than a crawl has workers.
+const MAX_SLOW: u32 = 32;
+
+/// What a crawl prints.
+#[derive(Clone, Copy)]
+pub struct Reporting<'a> {
+    /// What its workers share. Its failures say whether anything but the list is printed.
+    pub state: &'a CrawlState,
+    /// The path of the list of the places that were found; `None` if none is written.
+    pub list_found: Option<&'a str>,
+}
 
 // Prints the sizes of a frontier and the number of failed places on the error stream. Takes no
 // memory, so that a crawl is seen to end when memory is gone.
@@ -53,11 +78,27 @@ fn tell_stopped<C: Crew, R: Wait + Drop>(rt: &impl Eprint, desk: &Desk<C, R>, to
     stopped
 }
 
+// Prints on the error stream each place that has been out for longer than ten seconds and wasn't
+// printed before.
+fn tell_slow<W: Wait + Clock + Eprint>(rt: &W, outs: &Outs) {
+    let Ok(now) = Instant::now(rt) else {
+        return;
+    };
+    for _place in 0..MAX_SLOW {
+        let Some((place, seconds)) = outs.take_slow(rt, now) else {
+            return;
+        };
+        let url = PlaceUrl::of(&place);
+        let _ = eprintln!(rt; "hole: slow: {seconds} s {url}");
+    }
+}
+
 // Waits until the crawl is over, for ten seconds at most, and returns whether it is. Prints at once
-// if workers stop; `stopped` is how many had stopped.
-fn wait_for_end<C: Crew, R: Wait + Drop, W: Clock + Eprint>(
+// if workers stop or places become slow; `stopped` is how many workers had stopped.
+fn wait_for_end<C: Crew, R: Wait + Drop, W: Wait + Clock + Eprint>(
     rt: &W,
     desk: &Desk<C, R>,
+    outs: &Outs,
     is_over: &AtomicBool,
     stopped: &mut u64,
 ) -> bool {
@@ -67,25 +108,27 @@ fn wait_for_end<C: Crew, R: Wait + Drop, W: Clock + Eprint>(
         if was_over {
             return true;
         }
+        tell_slow(rt, outs);
         thread::sleep(rt, Duration::from_millis(REST));
     }
     false
 }
 
 // Prints the sizes every ten seconds if they or the number of failed places have changed, and once
-// the crawl is over. Prints at once if workers stop, and once if the crawl reaches its limit of
-// memory.
+// the crawl is over. Prints at once if workers stop or places become slow, and once if the crawl
+// reaches its limit of memory.
 fn tell_until_over<C: Crew, R: Wait + Drop, W: Wait + Clock + Eprint>(
     rt: &W,
     desk: &Desk<C, R>,
-    failures: &Failures,
+    reporting: Reporting<'_>,
     is_over: &AtomicBool,
 ) {
+    let failures = &reporting.state.failures;
     let mut told = None;
     let mut is_limit_told = false;
     let mut stopped = 0;
     for _round in rt.forever() {
-        let was_over = wait_for_end(rt, desk, is_over, &mut stopped);
+        let was_over = wait_for_end(rt, desk, &reporting.state.outs, is_over, &mut stopped);
         let (status, failed) = (desk.status(rt), failures.count());
         if told != Some((status, failed)) {
             tell(rt, status, failed);
@@ -102,11 +145,93 @@ fn tell_until_over<C: Crew, R: Wait + Drop, W: Wait + Clock + Eprint>(
     unreachable!()
 }
 
-/// Crawls as `gopher_crew::crawl` does, and prints on the error stream that the crawl reached its
-/// limit of memory, if it did. If failures are printed, also prints the sizes of the crawl, with
-/// the number of failed places, every ten seconds if they have changed, and at its end. If the
-/// system refuses a thread for that, prints them only at the end.
-pub fn crawl_and_tell<
+// Prints on the error stream which server's menus named most of the dropped links.
+fn tell_dropped(rt: &impl Eprint, alloc: Global, events: &[Event]) {
+    if let Ok(Some(most)) = most_dropped(alloc, events) {
+        let (server, links) = (HostPort::of(&most.server), most.links);
+        let _ = eprintln!(rt; "hole: dropped links: most of them in menus of {server} ({links})");
+    }
+}
+
+// How many places were found: by the record, or without memory for it by the places that failed.
+fn count_found(events: &Result<Vec<Event>, NoMemory>, status: Status, failed: u64) -> u64 {
+    match events {
+        Ok(events) => found_places(events),
+        Err(_refused) => u64::from(status.done).saturating_sub(failed),
+    }
+}
+
+// Prints on the error stream how a crawl ended that began then.
+fn tell_end<C: Crew, R: Wait + Drop, W: Wait + Clock + Eprint>(
+    rt: &W,
+    alloc: Global,
+    desk: &Desk<C, R>,
+    failures: &Failures,
+    events: &Result<Vec<Event>, NoMemory>,
+    began: io::Result<Instant>,
+) {
+    let status = desk.status(rt);
+    let end = CrawlEnd {
+        status,
+        found: count_found(events, status, failures.count()),
+        stopped: desk.stopped_workers(),
+        seconds: seconds_since(rt, began),
+    };
+    let _ = eprintln!(rt; "hole: crawl {end}");
+    if let Ok(events) = events
+        && status.dropped > 0
+    {
+        tell_dropped(rt, alloc, events);
+    }
+}
+
+// The whole seconds since then; 0 if the clock can't be read.
+fn seconds_since(rt: &impl Clock, began: io::Result<Instant>) -> u64 {
+    match (began, Instant::now(rt)) {
+        (Ok(began), Ok(now)) => now.duration_since(began).as_secs(),
+        _ => 0,
+    }
+}
+
+// Writes the list of the places that were found. If that fails, prints why on the error stream.
+fn list_found<W: Files + Eprint>(
+    rt: &W,
+    alloc: Global,
+    events: &Result<Vec<Event>, NoMemory>,
+    path: &str,
+) {
+    let written = match events {
+        Ok(events) => write_list(rt, alloc, events, path),
+        Err(_refused) => Err(io::Error::from(ErrorKind::OutOfMemory)),
+    };
+    if let Err(error) = written {
+        let _ = eprintln!(rt; "hole: the list of found places can't be written: {path}: {error}");
+    }
+}
+
+// Prints how a crawl ended that began then, and writes the list of the places that it found.
+fn report_end<C: Crew, R: Wait + Drop, W: Wait + Clock + Eprint + Files>(
+    rt: &W,
+    alloc: Global,
+    desk: &Desk<C, R>,
+    reporting: Reporting<'_>,
+    began: io::Result<Instant>,
+) {
+    let failures = &reporting.state.failures;
+    if !failures.are_told && reporting.list_found.is_none() {
+        return;
+    }
+    let events = desk.record(rt, alloc);
+    if failures.are_told {
+        tell_end(rt, alloc, desk, failures, &events, began);
+    }
+    if let Some(path) = reporting.list_found {
+        list_found(rt, alloc, &events, path);
+    }
+}
+
+// Crawls, and prints the sizes of the crawl beside it.
+fn crawl_beside<
     'a,
     C: Crew + Send + Sync,
     R: Wait + Drop + Send + Sync,
@@ -116,18 +241,13 @@ pub fn crawl_and_tell<
     alloc: Global,
     desk: &Desk<C, R>,
     pairs: Vec<(CrawlFetch<'a>, Share<C>)>,
-    failures: &Failures,
+    reporting: Reporting<'_>,
 ) -> Result<Vec<WorkEnd<CrawlFetch<'a>, C>>, CrawlRefused<CrawlFetch<'a>, C>> {
-    if !failures.are_told {
-        let crawled = crawl(rt, alloc, desk, pairs);
-        tell_limit(rt, desk);
-        return crawled;
-    }
     let over = AtomicBool::new(false);
     let is_over = &over;
     let (_told, crawled) = thread::join(
         rt,
-        move || tell_until_over(rt, desk, failures, is_over),
+        move || tell_until_over(rt, desk, reporting, is_over),
         move || {
             let crawled = crawl(rt, alloc, desk, pairs);
             is_over.store(true, Ordering::SeqCst);
@@ -136,6 +256,43 @@ pub fn crawl_and_tell<
     );
     if crawled.is_err() {
         let _ = rt.eprintln("hole: the crawl can't start: out of memory");
+    }
+    crawled
+}
+
+/// Crawls as `gopher_crew::crawl` does, and prints on the error stream that the crawl reached its
+/// limit of memory, if it did. If failures are printed, also prints the sizes of the crawl, with
+/// the number of failed places, every ten seconds if they have changed, and at its end, the places
+/// that are slow, and how the crawl ended. If the system refuses a thread for that, prints all this
+/// only at the end. Then writes the list of the places that were found, if it is asked for.
+pub fn crawl_and_tell<
+    'a,
+    C: Crew + Send + Sync,
+    R: Wait + Drop + Send + Sync,
+    W: Net<Listener = TcpListener, Stream = TcpStream>
+        + Threads
+        + Wait
+        + Clock
+        + Eprint
+        + Files
+        + Sync,
+>(
+    rt: &W,
+    alloc: Global,
+    desk: &Desk<C, R>,
+    pairs: Vec<(CrawlFetch<'a>, Share<C>)>,
+    reporting: Reporting<'_>,
+) -> Result<Vec<WorkEnd<CrawlFetch<'a>, C>>, CrawlRefused<CrawlFetch<'a>, C>> {
+    let began = Instant::now(rt);
+    let crawled = if reporting.state.failures.are_told {
+        crawl_beside(rt, alloc, desk, pairs, reporting)
+    } else {
+        let crawled = crawl(rt, alloc, desk, pairs);
+        tell_limit(rt, desk);
+        crawled
+    };
+    if crawled.is_ok() {
+        report_end(rt, alloc, desk, reporting, began);
     }
     crawled
 }
