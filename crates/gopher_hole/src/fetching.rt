@@ -22,7 +22,7 @@ use gopher_catalogue::Why;
 use gopher_crew::{Calls, Fetch};
 use gopher_item::Place;
 use gopher_text::{MAX_REPLY, Watched};
-use silences::host_of;
+pub use silences::host_of;
 use std::alloc::Global;
 use std::io::Eprint;
 use std::net::{Net, TcpListener, TcpStream};

@@ -145,11 +145,11 @@ fn tell_until_over<C: Crew, R: Wait + Drop, W: Wait + Clock + Eprint>(
     unreachable!()
 }
 
-// Prints on the error stream which server's menus named most of the dropped links.
+// Prints on the error stream which host's menus named most of the dropped links.
 fn tell_dropped(rt: &impl Eprint, alloc: Global, events: &[Event]) {
     if let Ok(Some(most)) = most_dropped(alloc, events) {
-        let (server, links) = (HostPort::of(&most.server), most.links);
-        let _ = eprintln!(rt; "hole: dropped links: most of them in menus of {server} ({links})");
+        let (host, links) = (HostPort::of(&most.host), most.links);
+        let _ = eprintln!(rt; "hole: dropped links: most of them in menus of {host} ({links})");
     }
 }
 

@@ -1,19 +1,23 @@
-//! `most_dropped`: the server whose menus named most of the links that a crawl dropped.
+//! `most_dropped`: the host whose menus named most of the links that a crawl dropped.
 
-ghost use Rattle.std.specs.Prelude.{◌≡◌, count_by, OnOk, IfOk};
+ghost use Rattle.std.specs.Prelude.{◌≡◌, Some, count_by, OnOk, IfOk};
+ghost use Rattle.indexmap.specs.IndexMap.{get, Updates};
+ghost use Rattle.gopher_item.specs.Place.{same_place};
 ghost use Rattle.gopher_catalogue.specs.Tables.{after_mention, after_mentions};
-ghost use Rattle.gopher_hole.specs.Dropped.{IsMost, is_unknown};
+ghost use Rattle.gopher_hole.specs.Dropped.{IsMost, is_unknown, more_links};
+ghost use Rattle.gopher_hole.specs.Silences.{host_of};
 
+use crate::fetching::host_of;
 use gopher_catalogue::Event;
-use gopher_item::{ItemFault, NoMemory, Place, Places};
+use gopher_item::{NoMemory, Place, Places};
 use indexmap::{IndexMap, IndexSet};
 use std::alloc::Global;
 
-/// A server, and how many links of its menus a crawl dropped.
+/// A host, and how many links of its menus a crawl dropped.
 #[derive(Debug, Drop)]
 pub struct Dropped {
-    /// The main menu of the server.
-    pub server: Place,
+    /// The main menu of the host.
+    pub host: Place,
     /// How many links were dropped, with repeats.
     pub links: u64,
 }
@@ -87,47 +91,42 @@ fn unknown_links(alloc: Global, known: &IndexSet<Place>, links: &Places) -> Resu
     Ok(unknown)
 }
 
-// The main menu of a place's server.
-fn server_of(alloc: Global, place: &Place) -> Result<Place, NoMemory> {
-    match Place::new(alloc, b'1', b"", place.host(), place.port()) {
-        Ok(menu) => Ok(menu),
-        Err(ItemFault::NoMemory) => Err(NoMemory),
-        Err(_) => place.clone(),
-    }
-}
-
-// Adds how many links of a menu were dropped to those of its server.
+// Adds how many links of a menu were dropped to those of its host.
 fn add_dropped(
     alloc: Global,
-    servers: &mut IndexMap<Place, u64>,
+    hosts: &mut IndexMap<Place, u64>,
     menu: &Place,
     links: u64,
-) -> Result<(), NoMemory> {
-    if links > 0 {
-        let server = server_of(alloc, menu)?;
-        let before = servers.get(&server).copied().unwrap_or(0);
-        servers.insert(server, before.saturating_add(links))?;
-    }
+) -> Result<(), NoMemory>
+    ensures { OnOk result (let host = host_of menu.now in
+        Updates same_place hosts.old hosts.new host
+        (Some (more_links (get same_place hosts.old host) links))) }
+{
+    let host = host_of(alloc, menu)?;
+    let before = hosts.get(&host).copied().unwrap_or(0);
+    hosts.insert(host, before.saturating_add(links))?;
     Ok(())
 }
 
-// How many links of each server's menus are not among the known places, in the order in which the
-// first of those menus was found.
+// How many links of each host's menus are not among the known places, in the order in which the
+// first of those menus was found. Hosts without such links are left out.
 fn dropped_links(
     alloc: Global,
     known: &IndexSet<Place>,
     events: &[Event],
 ) -> Result<IndexMap<Place, u64>, NoMemory> {
-    let mut servers = IndexMap::new(alloc);
+    let mut hosts = IndexMap::new(alloc);
     for event in events {
         if let Event::Found(_, page) = event
             && let Some(links) = page.packed_links()
         {
             let dropped = unknown_links(alloc, known, links)?;
-            add_dropped(alloc, &mut servers, page.place(), dropped)?;
+            if dropped > 0 {
+                add_dropped(alloc, &mut hosts, page.place(), dropped)?;
+            }
         }
     }
-    Ok(servers)
+    Ok(hosts)
 }
 
 // The index of the greatest of these numbers, the first of several; `None` if there are none.
@@ -144,22 +143,22 @@ fn most(numbers: &[u64]) -> Option<usize>
     best
 }
 
-/// Returns the server whose menus have the most links to places that aren't known, by the record
-/// of a crawl that is over. `None` if all links are known.
+/// Returns the host whose menus have the most links to places that aren't known, by the record of a
+/// crawl that is over. `None` if all links are known.
 ///
 /// # Errors
 ///
 /// `NoMemory` (90).
 pub fn most_dropped(alloc: Global, events: &[Event]) -> Result<Option<Dropped>, NoMemory> {
     let known = known_places(alloc, events)?;
-    let servers = dropped_links(alloc, &known, events)?;
-    let numbers: Vec<u64> = servers.values().copied().collect(alloc)?;
+    let hosts = dropped_links(alloc, &known, events)?;
+    let numbers: Vec<u64> = hosts.values().copied().collect(alloc)?;
     let Some(index) = most(&numbers) else {
         return Ok(None);
     };
-    match servers.get_index(index) {
-        Some((server, links)) => Ok(Some(Dropped {
-            server: server.clone()?,
+    match hosts.get_index(index) {
+        Some((host, links)) => Ok(Some(Dropped {
+            host: host.clone()?,
             links: *links,
         })),
         None => Ok(None),
