@@ -47,6 +47,7 @@ BAD_ARGUMENTS = [
 # Words that show a text, and its parts.
 SHOWN = (
     (("--help",), ["\n  check "]), (("--version",), ["hole "]), (("check", "examples/hole.toml"), ["\nsound\n"]),
+    (("check", "examples/neighbours.toml"), ["\nsound\n"]),
     (("replay", "--help"), ["Usage: hole replay < SCRIPT\n"]),
     (("serve", "--help"), ["\nUsage: hole serve [OPTIONS] <SETTINGS>\n", "--listen <ADDRESS>"]),
 )

@@ -45,7 +45,7 @@ class Manual(unittest.TestCase):
                 self.assertIn(f'Key::{key.title().replace("_", "")} => "use a number from 1 to {most}"', sources("gopher_scope"))
 
     def test_example_settings_have_keys_of_the_manual(self):
-        for file in (ROOT / "examples/hole.toml", ROOT / "packaging/debian/hole.toml"):
+        for file in (*ROOT.glob("examples/*.toml"), ROOT / "packaging/debian/hole.toml"):
             for key, value in tomllib.loads(file.read_text()).items():
                 for name in {name for table in value for name in table} if isinstance(value, list) else ():
                     self.assertRegex(SETTINGS[key], rf"\b{name}\b", str(file))
