@@ -22,6 +22,7 @@ import multiprocessing
 import os
 import pathlib
 import random
+import re
 import resource
 import socket
 import time
@@ -471,6 +472,8 @@ def attack_by_searches(attacked):
     ):
         crawled = f"known {heavy.known} waiting 0 out 0 done {heavy.known} dropped 0 failed 0\n".encode()
         attacked.expect("the texts are crawled", crawled in iter(server.process.stderr.readline, b""), True)
+        ended, wanted = server.process.stderr.readline(), rb"hole: crawl finished: %d found, 0 failed, 0 dropped in \d+ s\n"
+        attacked.expect(f"the line of the crawl's end: {ended!r}", re.fullmatch(wanted % heavy.known, ended) is not None, True)
         wanted = [(b"/search\t%s\r\n" % text.encode(), heavy.site.search(text.encode())) for text in heavy_texts()]
         for line, reply in wanted:
             attacked.expect(f"the reply to {line[:40]!r}", ask_whole(server.port, line), reply)

@@ -3,12 +3,14 @@
 
     tests/crawling.py [--pages N] [PROGRAM]
 
-The largest host has a menu of menus, of which each leads to 128 texts; each text is found. N is 10,000 unless said. Another host counts what it is
-asked for: what the rules allow, once, and a place that can't be fetched as often as the settings say; --progress names each
-place that failed for good. A crawl of places where nobody listens ends. The words of a text that comes in pieces are those of its
-bytes. As many workers fetch at once as the settings say. The last line is 'crawling: N passed, M failed'.
+The largest host has a menu of menus, of which each leads to 128 texts; each text is found. N is 10,000 unless said. Another host
+counts what it is asked for: what the rules allow, once, and a place that can't be fetched as often as the settings say;
+--progress names each place that failed for good, and says how the crawl ended; --list-found lists what was found. A crawl of
+places where nobody listens ends. The words of a text that comes in pieces are those of its bytes. As many workers fetch at once
+as the settings say. The last line is 'crawling: N passed, M failed'.
 """
 import collections
+import re
 import threading
 import time
 
@@ -20,6 +22,7 @@ MOST_SECONDS = 300.0
 MOST_HITS = 50
 TRIES = 3
 MOON = b"moon\r\n.\r\n"
+ABSENT = "No such file or directory (os error 2)"
 # A reply of one byte more than a crawl takes.
 TOO_LONG = b"x" * (1_048_576 + 1)
 # So many failed places are printed, and the host's menu has some more that fail.
@@ -31,6 +34,11 @@ SECONDS_BETWEEN = 0.2
 WORKERS = {3: 8, 16: 20}
 # How long a host is watched after the last fetch that is expected of it. Fetches follow each other within milliseconds.
 SECONDS_AFTER = 1.0
+
+
+def without_seconds(lines):
+    """These lines, with S for the seconds that a crawl took."""
+    return [re.sub(r" in \d+ s$", " in S s", line) for line in lines]
 
 
 def is_crawled(server, texts):
@@ -95,11 +103,30 @@ def check_limits(test):
             output, error, status = server.end()
         sizes = b"known 5 waiting 0 out 0 done 5 dropped 0"
         test.expect("the end of a crawl with failed places", (output, status), (sizes + b"\n", 0))
-        failed = (("read 2", "fails"), ("too long 4", "long"))
-        lines = [f"hole: failed: {why}: 0 {HOST} {host.port} /{name}" for why, name in failed]
+        failed = (("fails", "read: connection reset"), ("long", "too long"))
+        lines = [f"hole: failed: gopher://{HOST}:{host.port}/0/{name}: {why}" for name, why in failed]
         told = error.decode().splitlines()
-        test.expect("the places that failed for good", sorted(told[:-1]), lines)
-        test.expect("how many they are", told[-1:], [sizes.decode() + " failed 2"])
+        test.expect("the places that failed for good", sorted(told[:-2]), lines)
+        ended = [sizes.decode() + " failed 2", "hole: crawl finished: 3 found, 2 failed, 0 dropped in S s"]
+        test.expect("how many they are", without_seconds(told[-2:]), ended)
+
+
+def check_list(test):
+    """The found places are listed in their order with sizes and titles, in place of an older list. A list that can't be written
+    is told."""
+    old, absent = test.folder / "list", test.folder / "none" / "list"
+    old.write_text("what stood there\n" * 100)
+    with Host(lambda line: replies[line]) as host:
+        replies = {b"": host.menu(b"0", (b"/text",)), b"/text": b"The moon\r\n.\r\n"}
+        for path, why in ((old, ""), (absent, f"hole: the list of found places can't be written: {absent}: {ABSENT}\n")):
+            with crawling(test, seeded(host.port), "--list-found", path, "--requests", 0) as server:
+                output, error, status = server.end()
+            test.expect(f"the end of a crawl with the list {path.name}", (output[:8], error.decode(), status), (b"known 2 ", why, 0))
+    # A page takes 512 bytes and its title, 17 bytes and twice its bytes for a word, and for a link 176 bytes and twice its parts.
+    menu, text = 512 + 1 + (17 + 2) + 176 + 2 * (len("/text") + len(HOST)), 512 + 8 + (17 + 6) + (17 + 8)
+    where = f"gopher://{HOST}:{host.port}"
+    test.expect("the list of found places", old.read_text(), f"{where}/1\t{menu}\t0\n{where}/0/text\t{text}\tThe moon\n")
+    test.expect("nothing else is left of it", sorted(path.name for path in test.folder.glob("list*")), ["list"])
 
 
 def check_many_failures(test):
@@ -107,7 +134,7 @@ def check_many_failures(test):
     absent, count = free_port(), MOST_PRINTED + MORE
     with Host(lambda line: menu) as host:
         # What a terminal would obey isn't printed as it is.
-        menu = host.menu(b"0", (b"/%d\x1b[2J" % number for number in range(count)), absent)
+        menu = host.menu(b"0", (b"/%d\x1b[2J %%?\xc3\xa9-._~/:@+,=Z9" % number for number in range(count)), absent)
         settings = seeded(host.port, f"places = {2 * count}", allow=[absent])
         with crawling(test, settings, "--progress", "--requests", 0) as server:
             output, error, status = server.end()
@@ -115,11 +142,14 @@ def check_many_failures(test):
     test.expect("the end of a crawl of many failures", (output.decode(), status), (sizes, 0))
     lines = error.decode().splitlines()
     printed = {line for line in lines if line.startswith("hole: failed: ")}
-    wanted = {f"hole: failed: connect 1: 0 {HOST} {absent} /{number}\\x1b[2J" for number in range(count)}
+    # Letters, digits and a few marks are as they are.
+    escaped, kept = "%1B%5B2J%20%25%3F%C3%A9", "-._~/:@+,=Z9"
+    wanted = {f"hole: failed: gopher://{HOST}:{absent}/0/{number}{escaped}{kept}: connect: connection refused" for number in range(count)}
     test.expect("how many failed places are printed", len(printed), MOST_PRINTED)
     test.expect("they are places that failed", printed <= wanted, True)
     last = [f"{sizes[:-1]} failed {count}", f"hole: failed places that aren't printed: {MORE}"]
-    test.expect("the last lines", lines[-2:], last)
+    last.append(f"hole: crawl finished: 1 found, {count} failed, 0 dropped in S s")
+    test.expect("the last lines", without_seconds(lines[-3:]), last)
 
 
 def in_pieces(_line):
@@ -170,5 +200,5 @@ def check_held(test, workers, names):
 
 
 if __name__ == "__main__":
-    checks = (check_limits, check_many_failures, check_pieces, check_workers, check_crawl)
+    checks = (check_limits, check_list, check_many_failures, check_pieces, check_workers, check_crawl)
     run_test("crawling", __doc__, *checks, pages=10_000)

@@ -324,21 +324,25 @@ def check_never_read(logs):
 
 
 def check_progress(logs):
-    """The sizes of the crawl are printed every ten seconds and at its end."""
+    """The sizes of the crawl are printed every ten seconds and at its end, and a place that is out for longer than that."""
     with socket.create_server((HOST, 0)) as deaf:
         port = deaf.getsockname()[1]
         with logs.serving("--progress", "--requests", 0, more=seeded(port)) as server:
             fetch, _ = deaf.accept()
             began = time.monotonic()
-            first = server.process.stderr.readline()
+            # a place that is out for as long as that is named too
+            first = [re.sub(rb" 1\d s ", b" S s ", server.process.stderr.readline()) for _ in range(2)]
             seconds = time.monotonic() - began
             deaf.close()
             fetch.close()
             output, rest, status = server.end()
-    logs.expect("the sizes of a crawl that goes on", first, b"known 1 waiting 0 out 1 done 0 dropped 0" + FAILED % 0)
+    slow = f"hole: slow: S s gopher://{HOST}:{port}/1\n".encode()
+    logs.expect("the sizes of a crawl that goes on", sorted(first), [slow, b"known 1 waiting 0 out 1 done 0 dropped 0" + FAILED % 0])
     logs.expect(f"they came after {seconds:.1f} seconds", 8 < seconds < 13, True)
-    failed = f"hole: failed: read 2: 1 {HOST} {port} \n".encode()
-    logs.expect("the sizes at its end", (rest, status), (failed + output[:-1] + FAILED % 1, 0))
+    failed = f"hole: failed: gopher://{HOST}:{port}/1: read: connection reset\n".encode()
+    ended = b"hole: crawl finished: 0 found, 1 failed, 0 dropped in S s\n"
+    rest = re.sub(rb" in 1\d s\n$", b" in S s\n", rest)
+    logs.expect("the sizes at its end", (rest, status), (failed + output[:-1] + FAILED % 1 + ended, 0))
     logs.expect("they are those of its end", b" waiting 0 out 0 " in output, True)
 
 

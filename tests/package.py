@@ -202,7 +202,9 @@ def check_completion(test, machine):
         test.expect(f"the options of {command}", completed(file, place, "hole", command, "--"), sorted(options))
     test.expect("settings", completed(file, place, "hole", "check", ""), ["hole.toml", "site"])
     test.expect("any file for the log", completed(file, place, "hole", "serve", "hole.toml", "--log", "l"), ["log.txt"])
-    test.expect("no file for a number", completed(file, place, "hole", "serve", "hole.toml", "--requests", ""), [])
+    test.expect("any file for the list", completed(file, place, "hole", "serve", "hole.toml", "--list-found", "l"), ["log.txt"])
+    for option in ("--requests", "--fetch-timeout", "--fetch-pause"):
+        test.expect(f"no file for the number of {option}", completed(file, place, "hole", "serve", "hole.toml", option, ""), [])
 
 
 def check_unit(test, machine):

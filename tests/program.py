@@ -40,10 +40,14 @@ BAD_ARGUMENTS = [
     *((("serve", "s.toml", "--listen", word), "error: .*--listen <ADDRESS>") for word in NO_ADDRESSES),
     *((("check", "s.toml", "--listen", word), "--listen <ADDRESS>.*hole check --help") for word in NO_ADDRESSES),
     *((("serve", "s.toml", f"--crawl-memory={word}"), "--crawl-memory") for word in NO_BYTES),
+    *((("serve", "s.toml", f"--fetch-timeout={word}"), "--fetch-timeout") for word in ("", "86401", "-1", "1.5", "1m")),
+    *((("serve", "s.toml", f"--fetch-pause={word}"), "--fetch-pause") for word in ("", "3600001", "-1", "0.5", "1s")),
+    (("serve", "s.toml", "--list-found"), "--list-found"),
 ]
 # Words that show a text, and its parts.
 SHOWN = (
     (("--help",), ["\n  check "]), (("--version",), ["hole "]), (("check", "examples/hole.toml"), ["\nsound\n"]),
+    (("check", "examples/neighbours.toml"), ["\nsound\n"]),
     (("replay", "--help"), ["Usage: hole replay < SCRIPT\n"]),
     (("serve", "--help"), ["\nUsage: hole serve [OPTIONS] <SETTINGS>\n", "--listen <ADDRESS>"]),
 )
@@ -51,6 +55,7 @@ SEED = '[[seeds]]\nhost = "h"\n[[allow]]\nhost = "h"\n'
 # How many files may be open, and settings whose threads and workers need more.
 FEW_FILES = ((64, "threads = 1\n"), (68, "workers = 4\n" + SEED), (89, "threads = 8\nworkers = 16\n" + SEED))
 NO_THREAD = b"hole: 82\n"
+FINISHED = b"hole: crawl finished: 0 found, 0 failed, 0 dropped in 0 s\n"
 # The number of server threads; which of the threads don't start; more words; whether a text is sent; the output at the end, and
 # the errors.
 THREADS = (
@@ -61,7 +66,7 @@ THREADS = (
     (2, "10", ("--requests", 0), False, b"", NO_THREAD),
     (2, "0" + "1" * 20, ("--requests", 1), True, b"", NO_THREAD),
     # only the thread that prints the crawl's sizes lacks
-    (1, "0" + "1" * 20, ("--progress", "--requests", 1), True, SIZES, SIZES[:-1] + b" failed 0\n"),
+    (1, "0" + "1" * 20, ("--progress", "--requests", 1), True, SIZES, SIZES[:-1] + b" failed 0\n" + FINISHED),
 )
 PORT = "7070"
 # How a terminal may end a program.

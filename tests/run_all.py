@@ -74,6 +74,7 @@ TESTS = (
     Test("tests/attack.py", is_quick=True, is_alone=True, unproved=("--memory", "100000")),
     Test("tests/crawl_memory.py", is_alone=True),
     Test("tests/crawling.py", is_alone=True),
+    Test("tests/hosts.py", is_alone=True),
     Test("tests/log.py", is_quick=True, is_alone=True),
 )
 

@@ -38,21 +38,24 @@ class Test:
     def __init__(self, name, program, folder, given):
         self.name, self.program, self.folder, self.given = name, program, folder, given
         self.passed, self.failed, self.sites = 0, 0, 0
+        # Checks may run beside each other.
+        self.lock = threading.Lock()
 
     def expect(self, what, got, wanted):
-        if got == wanted:
-            self.passed += 1
-            return
-        self.failed += 1
-        if self.failed > MOST_SHOWN:
+        with self.lock:
+            is_met = got == wanted
+            self.passed, self.failed = self.passed + is_met, self.failed + (not is_met)
+            is_shown = not is_met and self.failed <= MOST_SHOWN
+        if not is_shown:
             return
         shown = [value if len(repr(value)) < 300 else repr(value)[:300] + ".." for value in (got, wanted)]
         print(f"{self.name}: {what}: {shown[0]!r} is not {shown[1]!r}", flush=True)
 
     def site(self, files, name=None):
         """A new folder with these files, by their paths."""
-        self.sites += 1
-        root = self.folder / (name or f"site-{self.sites}")
+        with self.lock:
+            self.sites += 1
+            root = self.folder / (name or f"site-{self.sites}")
         root.mkdir(parents=True)
         for path, content in files.items():
             (root / path).parent.mkdir(parents=True, exist_ok=True)
