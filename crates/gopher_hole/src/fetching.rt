@@ -134,11 +134,11 @@ fn fetch_and_note<R: Net + Clock + Wait + Eprint>(
     state.outs.end(rt, place);
     match fetched {
         Ok(reply) => {
-            state.end(rt, host, place, begun, None);
+            state.end_answered(rt, host, begun);
             Ok(reply)
         }
         Err(failure) => {
-            state.end(rt, host, place, begun, Some(failure));
+            state.end_failed(rt, host, place, begun, failure);
             Err(failure)
         }
     }

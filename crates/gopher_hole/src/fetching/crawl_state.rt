@@ -7,7 +7,7 @@ use crate::arguments::Serving;
 use crate::failures::Failures;
 use crate::fetching::cause::Cause;
 use crate::fetching::pauses::Pauses;
-use crate::fetching::silences::{FetchEnd, MAX_TIMEOUTS, Permit, Silences};
+use crate::fetching::silences::{EndNote, FetchEnd, MAX_TIMEOUTS, Permit, Silences};
 use crate::progress::outs::Outs;
 use crate::progress::urls::HostPort;
 use gopher_catalogue::Why;
@@ -17,10 +17,6 @@ use std::io::Eprint;
 use std::sync::{Mutex, Wait};
 use std::thread;
 use std::time::{Clock, Duration, Instant};
-
-// A worker whose fetch timed out rests for so many seconds. Others whose fetches of this host began
-// with it then have timed out too, before it asks the host again.
-const REST: u64 = 1;
 
 /// What the workers of a crawl share: the places that failed and those that are being fetched, the
 /// hosts that time out, and when the next fetch of a host may begin.
@@ -162,43 +158,52 @@ impl CrawlState {
         }
     }
 
-    // Notes that a fetch of a host ended now. Returns whether the host becomes given up.
+    // Notes that a fetch of a host ended now. `None` if nothing could be noted.
     fn note_end<R: Clock + Wait>(
         &self,
         rt: &R,
         host: Place,
         begun: Begun,
         why: Option<Why>,
-    ) -> bool {
+    ) -> Option<EndNote> {
         let Begun { began, is_retry } = begun;
         let end = FetchEnd {
             began,
             ended: Instant::now(rt).unwrap_or(began),
             is_retry,
         };
-        self.silences.lock(rt).end(host, end, why).unwrap_or(false)
+        self.silences.lock(rt).end(host, end, why).ok()
     }
 
-    /// Ends a fetch of a place, which failed or, if that is `None`, was answered. If the place's
-    /// host becomes given up and failures are printed, prints that. Rests after a time-out.
-    pub fn end<R: Clock + Wait + Eprint>(
+    // Rests after a fetch that timed out. Others whose fetches of the host began with it then have
+    // timed out too, before it asks the host again. The system may end a wait later than it was
+    // asked to, by an eighth of it.
+    fn rest(&self, rt: &impl Clock) {
+        thread::sleep(rt, Duration::from_secs(self.timeout / 8 + 1));
+    }
+
+    /// Ends a fetch of a place that failed. If the place's host becomes given up and failures are
+    /// printed, prints that. If the fetch timed out and the host isn't given up, rests.
+    pub fn end_failed<R: Clock + Wait + Eprint>(
         &self,
         rt: &R,
         host: Place,
         place: &Place,
         begun: Begun,
-        failure: Option<Failure>,
+        failure: Failure,
     ) {
-        let why = match failure {
-            Some(failure) => silent_at(failure),
-            None => None,
-        };
-        let is_given_up = self.note_end(rt, host, begun, why);
-        if is_given_up && self.failures.are_told {
+        let note = self.note_end(rt, host, begun, silent_at(failure));
+        if note.is_some_and(|note| note.becomes_given_up) && self.failures.are_told {
             print_given_up(rt, place);
         }
-        if why.is_some() {
-            thread::sleep(rt, Duration::from_secs(REST));
+        let is_given_up = note.is_some_and(|note| note.is_given_up);
+        if failure.cause == Cause::TimedOut && !is_given_up {
+            self.rest(rt);
         }
+    }
+
+    /// Ends a fetch of a host that was answered.
+    pub fn end_answered<R: Clock + Wait>(&self, rt: &R, host: Place, begun: Begun) {
+        let _note = self.note_end(rt, host, begun, None);
     }
 }

@@ -65,6 +65,15 @@ pub struct FetchEnd {
     pub is_retry: bool,
 }
 
+/// What is known of a host once a fetch of it has ended.
+#[derive(Clone, Copy, Debug)]
+pub struct EndNote {
+    /// Whether it is given up, and wasn't before.
+    pub becomes_given_up: bool,
+    /// Whether it is given up.
+    pub is_given_up: bool,
+}
+
 /// The host of a place, as `Silences` and `Pauses` know it: the place of its main menu.
 ///
 /// # Errors
@@ -258,20 +267,24 @@ impl Silences {
     }
 
     /// Notes that a fetch of a host has ended: that it timed out at the step `why`, or was answered
-    /// if that is `None`. Returns whether the host becomes given up.
+    /// if that is `None`. Returns what is known of the host then.
     ///
     /// # Errors
     ///
     /// `NoMemory` (90): nothing was noted of this host before, and memory ran out, or 1,024 other
     /// hosts are noted. Nothing changes.
-    pub fn end(&mut self, host: Place, end: FetchEnd, why: Option<Why>) -> Result<bool, NoMemory>
+    pub fn end(&mut self, host: Place, end: FetchEnd, why: Option<Why>) -> Result<EndNote, NoMemory>
         ensures noted { OnOk result (Updates same_place self.old.hosts self.new.hosts host (after_fetch (get same_place self.old.hosts host) end why)) }
-        ensures told { IfOk result (λ told. told ≡ becomes_given_up (get same_place self.old.hosts host) (after_fetch (get same_place self.old.hosts host) end why)) }
+        ensures becomes { IfOk result (λ note. note.becomes_given_up ≡ becomes_given_up (get same_place self.old.hosts host) (after_fetch (get same_place self.old.hosts host) end why)) }
+        ensures is { IfOk result (λ note. note.is_given_up ≡ is_host_given_up (after_fetch (get same_place self.old.hosts host) end why)) }
         ensures err { OnErr result (IsUnchanged self.old.hosts self.new.hosts) }
     {
         let before = self.hosts.get(&host).copied();
         let after = after_fetch(before, end, why);
-        let is_told = becomes_given_up(before, after);
+        let note = EndNote {
+            becomes_given_up: becomes_given_up(before, after),
+            is_given_up: is_host_given_up(after),
+        };
         match after {
             Some(silence) => {
                 if before.is_none() && self.hosts.len() >= MAX_HOSTS {
@@ -283,6 +296,6 @@ impl Silences {
                 let _before = self.hosts.swap_remove(&host);
             }
         }
-        Ok(is_told)
+        Ok(note)
     }
 }
