@@ -17,8 +17,8 @@ whole_nanos step = min (as_nanos step * 10) max_nanos
 abbrev pub wait_nanos : Instant → Duration → Instant → ℕ
 wait_nanos began step now = min (as_nanos step) (nanos_left began (whole_nanos step) now)
 
--- what the system may be asked to wait for a step: for ever if that takes no time, and else more than
--- no time and at most that
+-- what the system may be asked to wait for a step: for ever if that takes no time, and else more
+-- than no time and at most that
 abbrev pub AllowsWait : Duration → Option Duration → Type 0
 AllowsWait step None = as_nanos step ≡ 0
 AllowsWait step (Some wait) = (0 < as_nanos wait) × (as_nanos wait ≤ as_nanos step)

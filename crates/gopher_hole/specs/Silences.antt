@@ -6,6 +6,7 @@ use Rattle.gopher_item.specs.Place.{PlaceData, place_of}
 use Rattle.gopher_catalogue.specs.declared.event.Why.{Why}
 use Rattle.gopher_hole.specs.declared.fetching.silences.Silence.{Silence}
 use Rattle.gopher_hole.specs.declared.fetching.silences.FetchEnd.{FetchEnd}
+use Rattle.gopher_hole.specs.declared.fetching.silences.EndNote.{EndNote}
 use Rattle.gopher_hole.specs.declared.fetching.silences.Permit.{Permit}
 use Rattle.gopher_hole.specs.declared.fetching.silences.Permit.TheVariants as permit
 use Rattle.gopher_hole.specs.declared.fetching.cause.Cause.{Cause}
@@ -28,7 +29,8 @@ has_passed nanos earlier later = nat_le nanos (instant_nanos later - instant_nan
 -- minute after its last time-out
 abbrev pub may_retry : Silence → Instant → Bool
 may_retry silence now =
-    not silence.is_retried && (nat_lt 0 silence.answers || has_passed 60_000_000_000 silence.ended now)
+    not silence.is_retried
+    && (nat_lt 0 silence.answers || has_passed 60_000_000_000 silence.ended now)
 
 -- whether a place of a host may be fetched, by what is noted of the host
 abbrev pub permit_of : Option Silence → Instant → Permit
@@ -126,6 +128,11 @@ is_host_given_up (Some silence) = is_given_up silence
 -- a host that wasn't given up is
 abbrev pub becomes_given_up : Option Silence → Option Silence → Bool
 becomes_given_up before after = not (is_host_given_up before) && is_host_given_up after
+
+-- what is told of a host after a fetch: whether it became given up by it, and whether it is
+pub record IsNote (before after : Option Silence) (note : EndNote) : Type 0 where
+  pub becomes : note.becomes_given_up ≡ becomes_given_up before after
+  pub stands : note.is_given_up ≡ is_host_given_up after
 
 -- the host didn't say anything in time, or its name has no address
 abbrev pub is_silent : Cause → Bool

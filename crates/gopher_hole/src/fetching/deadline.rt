@@ -61,8 +61,8 @@ impl Deadline {
         }
     }
 
-    /// How long a step that begins now may take: more than no time, and at most `step`. `None` if it
-    /// may take for ever.
+    /// How long a step that begins now may take: more than no time, and at most `step`. `None` if
+    /// it may take for ever.
     ///
     /// # Errors
     ///

@@ -52,8 +52,10 @@ impl Pauses {
         pause: Duration,
         now: Instant,
     ) -> Result<Instant, NoMemory>
-        ensures next { IfOk result (IsNextBegin (get same_place self.old.hosts host.now) pause now) }
-        ensures noted { IfOk result (λ next. Updates same_place self.old.hosts self.new.hosts host.now (Some next)) }
+        ensures next { IfOk result (
+            IsNextBegin (get same_place self.old.hosts host.now) pause now) }
+        ensures noted { IfOk result (λ next.
+            Updates same_place self.old.hosts self.new.hosts host.now (Some next)) }
         ensures err { OnErr result (IsUnchanged self.old.hosts self.new.hosts) }
     {
         let last = self.hosts.get(host).copied();

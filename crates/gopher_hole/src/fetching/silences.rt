@@ -6,7 +6,7 @@ ghost use Rattle.std.specs.Option.{option_map};
 ghost use Rattle.indexmap.specs.IndexMap.{get, Updates, IsUnchanged};
 ghost use Rattle.gopher_item.specs.Place.{same_place};
 ghost use Rattle.gopher_hole.specs.declared.fetching.silences.Permit.TheVariants as permit;
-ghost use Rattle.gopher_hole.specs.Silences.{after_answer, after_fetch, after_retry, after_timeout, becomes_given_up, came_by, host_of, is_given_up, is_host_given_up, is_retried_on, may_retry, permit_of, retried, row_before};
+ghost use Rattle.gopher_hole.specs.Silences.{after_answer, after_fetch, after_retry, after_timeout, becomes_given_up, came_by, host_of, is_given_up, is_host_given_up, is_retried_on, may_retry, permit_of, retried, row_before, IsNote};
 
 use gopher_catalogue::Why;
 use gopher_item::{NoMemory, Place};
@@ -254,7 +254,9 @@ impl Silences {
     /// fetched.
     pub fn begin(&mut self, host: &Place, now: Instant) -> Permit
         ensures permit { result ≡ permit_of (get same_place self.old.hosts host.now) now }
-        ensures retry { result ≡ permit.Retry → Updates same_place self.old.hosts self.new.hosts host.now (option_map retried (get same_place self.old.hosts host.now)) }
+        ensures retry { result ≡ permit.Retry → (
+            let before = get same_place self.old.hosts host.now in
+            Updates same_place self.old.hosts self.new.hosts host.now (option_map retried before)) }
         ensures other { (result ≡ permit.Retry) ⊎ IsUnchanged self.old.hosts self.new.hosts }
     {
         let permit = self.permit(host, now);
@@ -274,9 +276,12 @@ impl Silences {
     /// `NoMemory` (90): nothing was noted of this host before, and memory ran out, or 1,024 other
     /// hosts are noted. Nothing changes.
     pub fn end(&mut self, host: Place, end: FetchEnd, why: Option<Why>) -> Result<EndNote, NoMemory>
-        ensures noted { OnOk result (Updates same_place self.old.hosts self.new.hosts host (after_fetch (get same_place self.old.hosts host) end why)) }
-        ensures becomes { IfOk result (λ note. note.becomes_given_up ≡ becomes_given_up (get same_place self.old.hosts host) (after_fetch (get same_place self.old.hosts host) end why)) }
-        ensures is { IfOk result (λ note. note.is_given_up ≡ is_host_given_up (after_fetch (get same_place self.old.hosts host) end why)) }
+        ensures noted { OnOk result (
+            let before = get same_place self.old.hosts host in
+            Updates same_place self.old.hosts self.new.hosts host (after_fetch before end why)) }
+        ensures told { IfOk result (λ note.
+            let before = get same_place self.old.hosts host in
+            IsNote before (after_fetch before end why) note) }
         ensures err { OnErr result (IsUnchanged self.old.hosts self.new.hosts) }
     {
         let before = self.hosts.get(&host).copied();

@@ -59,8 +59,9 @@ fn write_file<R: Files>(rt: &R, alloc: Global, events: &[Event], path: &str) -> 
 }
 
 /// Writes the list of the places that were found by these events, a line for each, in the order in
-/// which they were found: the URL, the bytes of memory that the page takes, and its title, separated
-/// by TAB. Writes `PATH.new` first, and then renames it, so that `path` never has half a list.
+/// which they were found: the URL, the bytes of memory that the page takes, and its title,
+/// separated by TAB. Writes `PATH.new` first, and then renames it, so that `path` never has half a
+/// list.
 ///
 /// # Errors
 ///
