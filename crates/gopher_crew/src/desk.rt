@@ -346,8 +346,8 @@ impl<C: Crew, R: Wait + Drop> Desk<C, R> {
     }
 
     /// Returns a copy of the record: every event so far, oldest first. Each shares its opening or
-    /// its page with the crawl. The record is legal, and begins with the one that the desk was opened
-    /// with. Workers wait for the copy, a few milliseconds for 100,000 events.
+    /// its page with the crawl. The record is legal, and begins with the one that the desk was
+    /// opened with. Workers wait for the copy, a few milliseconds for 100,000 events.
     ///
     /// # Errors
     /// `NoMemory` (90).
