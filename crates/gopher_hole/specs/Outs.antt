@@ -1,5 +1,5 @@
 -- The places that workers are fetching, and which of them are slow.
-use Rattle.std.specs.Prelude.{ℕ, ◌-◌, ◌*◌, Bool, ◌&&◌, not, nat_lt}
+use Rattle.std.specs.Prelude.{◌-◌, ◌*◌, Bool, ◌&&◌, not, nat_lt}
 use Rattle.std.specs.Time.{instant_nanos}
 use Rattle.std.specs.declared.time.Instant.{Instant}
 use Rattle.gopher_hole.specs.declared.progress.outs.Out.{Out}
