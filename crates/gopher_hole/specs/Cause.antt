@@ -21,12 +21,12 @@ cause_of_kind kind.WriteZero code = cause.ClosedEarly
 cause_of_kind _ code = system_cause code
 
 -- the words for a cause; none for one of which nothing is known, or for which the system has words
-abbrev pub words_of : Cause → List ℕ
-words_of cause.TimedOut = codes "timed out"
-words_of cause.NoSuchHost = codes "no such host"
-words_of cause.Refused = codes "connection refused"
-words_of cause.Reset = codes "connection reset"
-words_of cause.ClosedEarly = codes "closed early"
-words_of cause.GivenUp = codes "host given up"
-words_of cause.Unknown = []
-words_of (cause.System code) = []
+abbrev pub cause_words : Cause → List ℕ
+cause_words cause.TimedOut = codes "timed out"
+cause_words cause.NoSuchHost = codes "no such host"
+cause_words cause.Refused = codes "connection refused"
+cause_words cause.Reset = codes "connection reset"
+cause_words cause.ClosedEarly = codes "closed early"
+cause_words cause.GivenUp = codes "host given up"
+cause_words cause.Unknown = []
+cause_words (cause.System code) = []

@@ -5,7 +5,8 @@ use Rattle.std.specs.Time.{instant_nanos}
 use Rattle.std.specs.declared.time.Instant.{Instant}
 use Rattle.std.specs.declared.time.Duration.{Duration}
 
--- the nanoseconds that are left of so many, from that time on; all of them by a clock that went back
+-- the nanoseconds that are left of a limit, from that time on; all of them by a clock that went
+-- back
 abbrev pub nanos_left : Instant → ℕ → Instant → ℕ
 nanos_left began limit now = limit - (instant_nanos now - instant_nanos began)
 

@@ -21,7 +21,7 @@ host_of place = place_of 49 [] place.host place.port
 abbrev pub is_given_up : Silence → Bool
 is_given_up silence = nat_le 3 silence.timeouts
 
--- so many nanoseconds went by from one time to another
+-- at least these nanoseconds went by from one time to another
 abbrev pub has_passed : ℕ → Instant → Instant → Bool
 has_passed nanos earlier later = nat_le nanos (instant_nanos later - instant_nanos earlier)
 

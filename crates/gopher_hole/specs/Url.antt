@@ -7,8 +7,8 @@ use Rattle.gopher_item.specs.Place.{PlaceData}
 use Rattle.gopher_hole.specs.declared.progress.urls.TheConstants.{ESCAPED}
 
 -- the bytes with `%` and two digits in place of each byte that is escaped in a URL
-abbrev pub escaped : List ℕ → List ℕ
-escaped bytes = percent_encode ESCAPED bytes
+abbrev pub percent_escaped : List ℕ → List ℕ
+percent_escaped bytes = percent_encode ESCAPED bytes
 
 -- the host has a colon, as an IPv6 address does
 abbrev pub has_colon : List ℕ → Bool
@@ -17,7 +17,7 @@ has_colon host = list_any (λ byte. byte == 58) host
 -- a host in a URL, in brackets if it has a colon: RFC 3986, section 3.2.2
 abbrev pub url_host : List ℕ → List ℕ
 url_host host =
-    if has_colon host then codes "[" ++ escaped host ++ codes "]" else escaped host
+    if has_colon host then codes "[" ++ percent_escaped host ++ codes "]" else percent_escaped host
 
 -- the server of a place
 abbrev pub host_port : PlaceData → List ℕ
@@ -26,5 +26,5 @@ host_port place = url_host place.host ++ codes ":" ++ decimal place.port
 -- the URL of a place: RFC 4266
 abbrev pub url_of : PlaceData → List ℕ
 url_of place =
-    codes "gopher://" ++ host_port place ++ codes "/" ++ escaped (place.kind ∷ [])
-    ++ escaped place.selector
+    codes "gopher://" ++ host_port place ++ codes "/" ++ percent_escaped (place.kind ∷ [])
+    ++ percent_escaped place.selector

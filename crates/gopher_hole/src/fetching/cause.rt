@@ -2,7 +2,7 @@
 
 ghost use Rattle.std.specs.Prelude.{◌≡◌};
 ghost use Rattle.std.specs.IoError.{error_kind, raw_os_error};
-ghost use Rattle.gopher_hole.specs.Cause.{cause_of_kind, words_of};
+ghost use Rattle.gopher_hole.specs.Cause.{cause_of_kind, cause_words};
 
 use std::io::{self, ErrorKind};
 
@@ -54,7 +54,7 @@ impl Cause {
     /// Returns the words for the cause; none for `Unknown`, and none for `System`, for which the
     /// system has words.
     pub fn words(self) -> &'static str
-        ensures { result.now ≡ words_of self }
+        ensures { result.now ≡ cause_words self }
     {
         match self {
             Cause::TimedOut => "timed out",

@@ -7,7 +7,7 @@ ghost use Rattle.gopher_hole.specs.Deadline.{AllowsWait, nanos_left, wait_nanos,
 use std::io::{self, ErrorKind};
 use std::time::{Clock, Duration, Instant};
 
-// A fetch may take so many times as long as one step of it.
+// How many times as long as one step a whole fetch may take.
 const STEPS: u32 = 10;
 
 /// How long a fetch may take that began then. A step of it, a connect, a write or a read, may take
@@ -39,7 +39,7 @@ fn shorter(first: Duration, second: Duration) -> Duration
 }
 
 impl Deadline {
-    /// The deadline of a fetch that began then, with so many seconds for a step.
+    /// The deadline of a fetch that began then, with these seconds for a step.
     pub fn new(began: Instant, seconds: u64) -> Deadline
         ensures began { result.began ≡ began }
         ensures step { as_nanos result.step ≡ seconds * 1_000_000_000 }

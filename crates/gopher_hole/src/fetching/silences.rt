@@ -14,13 +14,13 @@ use indexmap::IndexMap;
 use std::alloc::Global;
 use std::time::{Duration, Instant};
 
-/// A host is given up after so many time-outs in a row.
+/// How many time-outs in a row a host is given up after.
 pub const MAX_TIMEOUTS: u32 = 3;
 
-// Then one of its places is fetched again after so many seconds.
+// After how many seconds one of its places is fetched again.
 const REST: u64 = 60;
 
-// A host that is given up is as any other after so many answers in a row.
+// After how many answers in a row a host that is given up is as any other.
 const ENOUGH_ANSWERS: u32 = 3;
 
 // The most hosts that are noted.

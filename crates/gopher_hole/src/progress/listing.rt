@@ -1,7 +1,7 @@
 //! `write_list`: the list of the places that a crawl has found.
 
 ghost use Rattle.std.specs.Prelude.{◌≡◌, ◌++◌, map, IfOk, OnOk};
-ghost use Rattle.gopher_hole.specs.Listing.{IsFoundLine, shown_byte};
+ghost use Rattle.gopher_hole.specs.Listing.{IsFoundLine, title_byte};
 
 use crate::progress::urls::PlaceUrl;
 use gopher_catalogue::Event;
@@ -12,24 +12,24 @@ use std::fs::{self, Files};
 use std::io::{self, BufWriter, ErrorKind, Write};
 
 // A byte of a title as the list shows it: `?` for a control byte.
-fn shown_byte(byte: u8) -> u8
-    ensures { result ≡ shown_byte byte }
+fn title_byte(byte: u8) -> u8
+    ensures { result ≡ title_byte byte }
 {
     if is_control(byte) { b'?' } else { byte }
 }
 
 // Appends a title to a line.
 fn push_title(line: &mut Vec<u8>, title: &[u8]) -> Result<(), NoMemory>
-    ensures { OnOk result (line.new.items ≡ line.old.items ++ map shown_byte title.now) }
+    ensures { OnOk result (line.new.items ≡ line.old.items ++ map title_byte title.now) }
 {
     for byte in title {
-        line.push(shown_byte(*byte))?;
+        line.push(title_byte(*byte))?;
     }
     Ok(())
 }
 
 // The line of a page: the URL of its place, its size and its title, separated by TAB.
-fn found_line(alloc: Global, page: &Page) -> Result<Vec<u8>, NoMemory>
+fn list_line(alloc: Global, page: &Page) -> Result<Vec<u8>, NoMemory>
     ensures { IfOk result (λ line. IsFoundLine page.now line.items) }
 {
     let (url, size) = (PlaceUrl::of(page.place()), page.size());
@@ -43,7 +43,7 @@ fn found_line(alloc: Global, page: &Page) -> Result<Vec<u8>, NoMemory>
 fn write_lines<W: Write>(alloc: Global, events: &[Event], writer: &mut W) -> io::Result<()> {
     for event in events {
         if let Event::Found(_, page) = event {
-            match found_line(alloc, page) {
+            match list_line(alloc, page) {
                 Ok(line) => writer.write_all(&line)?,
                 Err(_refused) => return Err(io::Error::from(ErrorKind::OutOfMemory)),
             }
