@@ -134,7 +134,7 @@ impl<C: Crew, R: Wait + Abort + AllocGlobal> Room<'_, C, R> {
             self.may_refuse,
             self.desk.record(self.rt, self.rt.alloc()).ok()
         );
-        assert!(self.rt; events.len() as u64 == self.share.events() + 1);
+        assert!(self.rt; events.len() as u64 == self.share.events().saturating_add(1));
         assert!(self.rt; matches!(events.first(), Some(Event::Opened(_))));
     }
 
