@@ -9,10 +9,15 @@ help:
 
 # Serves the example's site on localhost and prints how to ask it, by the program that `make build` left or by one without proofs.
 # Ctrl-C ends it.
-# make run SETTINGS=my.toml serves your own folder.
+# make run SETTINGS=my.toml checks your own folder, and serves it if it is sound.
 .PHONY: run
 run:
 	@tools/run_example.py $(SETTINGS)
+
+# Prints what is wrong with settings and their folder, by a program like that of `make run`: make check SETTINGS=my.toml
+.PHONY: check
+check:
+	@tools/run_example.py --check $(SETTINGS)
 
 # Replays a script of a crawl by a program like that of `make run`, and prints the answers.
 # make replay SCRIPT=examples/first_crawl.script

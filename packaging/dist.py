@@ -2,6 +2,7 @@
 """Makes the packages of a version, with the sums of their bytes.
 
     packaging/dist.py [--program FILE] [--out FOLDER] [--unproved] [--unreleased] [--dirty]
+    packaging/dist.py --look [--unreleased] [--dirty]
 
 It writes three files to FOLDER (without --out, dist/):
 
@@ -22,6 +23,9 @@ The script refuses to pack:
 - a tree with changes that aren't committed. With --dirty it packs it, and the commit in BUILD ends in '-dirty'.
 - a program that needs a newer C library than OLDEST_GLIBC.
 
+With --look it packs nothing and needs no program: it refuses what it would refuse of the tree, and a machine without the tools
+for it. So `make dist` does that before it proves.
+
 The status is 0, or 1 with the reason on standard error.
 """
 import argparse
@@ -40,6 +44,9 @@ import textwrap
 import time
 
 ROOT = pathlib.Path(__file__).resolve().parent.parent
+sys.path.insert(0, str(ROOT / "tools"))
+import numbers_of_code
+
 PACKAGING = ROOT / "packaging"
 PROGRAM = ROOT / "crates/hole/out/hole"
 OLDEST_GLIBC = (2, 34)
@@ -118,6 +125,34 @@ def changes_of(number):
     return released, section_of(r"\[Unreleased\]") or ""
 
 
+def state_of_tree(number, unreleased, dirty):
+    """The commit, its time, and the released and the unreleased changes of a version; refused if this tree can't be packed."""
+    commit, when = commit_of(dirty)
+    released, later = changes_of(number)
+    if later and not unreleased:
+        raise Refused(
+            "CHANGELOG.md has unreleased changes. A package is made of a release: give them a version, and the program the same."
+            " (--unreleased packs it all the same, and marks the version.)"
+        )
+    return commit, when, released, later
+
+
+def lacks_dpkg():
+    """Whether no package for Debian can be made; a line on standard error then says so."""
+    if shutil.which("dpkg-deb"):
+        return False
+    print("dist: there is no dpkg-deb here, so no package for Debian is made", file=sys.stderr)
+    return True
+
+
+def look(unreleased, dirty):
+    """Refuses what would be refused of this tree and this machine, whatever the program."""
+    state_of_tree(numbers_of_code.version(), unreleased, dirty)
+    if not shutil.which("objdump"):
+        raise Refused("there is no objdump here, which says what C library a program needs")
+    lacks_dpkg()
+
+
 class Tree:
     """Files of a package, by the paths at which they are installed: their bytes and modes."""
 
@@ -155,13 +190,7 @@ class Release:
                 " 'make build' proves and builds it. (--unproved packs it all the same, and marks the version.)"
             )
         number = number_of(program)
-        self.commit, self.when = commit_of(dirty)
-        released, later = changes_of(number)
-        if later and not unreleased:
-            raise Refused(
-                "CHANGELOG.md has unreleased changes. A package is made of a release: give them a version, and the program the same."
-                " (--unreleased packs it all the same, and marks the version.)"
-            )
+        self.commit, self.when, released, later = state_of_tree(number, unreleased, dirty)
         self.changes = "\n".join(filter(None, [later, released]))
         self.version = number + (UNRELEASED if later else "") + ("" if self.proved else UNPROVED)
         self.glibc = needed_glibc(program)
@@ -329,18 +358,20 @@ def main():
     words.add_argument("--unproved", action="store_true", help="pack a program that was built without its proofs")
     words.add_argument("--unreleased", action="store_true", help="pack a program with changes that no version has yet")
     words.add_argument("--dirty", action="store_true", help="pack a tree with changes that aren't committed")
+    words.add_argument("--look", action="store_true", help="only refuse what would be refused of the tree")
     given = words.parse_args()
     os.umask(0o022)
     try:
+        if given.look:
+            look(given.unreleased, given.dirty)
+            return 0
         if not given.program.is_file():
             raise Refused(f"there is no {given.program}: 'make build' proves and builds it")
         release = Release(given.program.resolve(), given.unproved, given.unreleased, given.dirty)
         given.out.mkdir(parents=True, exist_ok=True)
         files = [make_tarball(release, given.out)]
-        if shutil.which("dpkg-deb"):
+        if not lacks_dpkg():
             files.append(make_debian(release, given.out))
-        else:
-            print("dist: there is no dpkg-deb here, so no package for Debian is made", file=sys.stderr)
         print(release.build_text() + write_sums(files, given.out), end="")
     except (Refused, OSError) as fault:
         print(f"dist: {fault}", file=sys.stderr)

@@ -42,8 +42,11 @@ WRONG_KIND, = CAUSES[32]
 (OUT_OF_RANGE, _), = CAUSES[33]
 UNKNOWN, = CAUSES[34]
 OUTSIDE, = CAUSES[50]
-UNREADABLE, = CAUSES[80]
+NO_FILE, SHUT, FOLDER, CIRCLE, LARGE_SETTINGS, NO_TEXT, _ = CAUSES[80]
+# Lines that other tests compare: of addresses, of what a search finds, and warnings but the three that stand here.
+ELSEWHERE = re.compile(rb"resolves to|search reaches|not linked|not allowed|warning: (?!line \d+ of .* leads nowhere|not served|searches find)")
 HINT = b"hint: ~ isn't expanded in root; write the whole path\n"
+WHOLE = "whole site: files {}, folders {}, bytes {}\n"
 LEFT = "warning: not served: empty folders {}, links to nothing and devices {}, hidden names {}"
 NO_SEEDS = "warning: searches find nothing, because the settings have no [[seeds]]"
 
@@ -111,9 +114,10 @@ class Site:
             file.write(content)
 
     def check(self, before=()):
-        """The report, standard error and status, without the addresses of the host (tests/listen.py)."""
+        """The report, standard error and status, without the addresses of the host (tests/listen.py) and what a search finds
+        (tests/survey.py)."""
         output, error, status = self.test.run("check", self.settings, before=before, user=self.user)
-        return b"".join(line for line in output.splitlines(True) if not line.startswith(b"resolves to")), error, status
+        return b"".join(line for line in output.splitlines(True) if not ELSEWHERE.match(line)), error, status
 
     def lines(self, *names, before=()):
         """The lines of the report that begin with these names, standard error and status."""
@@ -158,6 +162,15 @@ def put_sparse(*sizes):
     return lay_out
 
 
+def put_hidden(site):
+    """Hidden names, a menu file in a folder, and links: to nothing, to a device and to the menu file."""
+    site.add(b".hidden")
+    site.add(b".git/config")
+    site.add(b"z/.menu", b"hello\n")
+    for name, target in (("nowhere", "gone"), ("null", "/dev/null"), ("link", "z/.menu")):
+        put_link(name, target)(site)
+
+
 def put_folders(count):
     def lay_out(site):
         for number in range(count):
@@ -180,8 +193,11 @@ SEED = '[[seeds]]\nhost = "a"\n'
 DENIED_SEED = SEED + SEED + 'selector = "/b"\n[[allow]]\nhost = "a"\n[[deny]]\nhost = "a"\nprefix = "/b"\n'
 DEEP = b"a" * 127 + b"/" + b"b" * 127
 MOST_FILES = [LARGEST] * (MOST_BYTES // LARGEST)
+OVER = (LARGE_SITE, f"size: {MOST_BYTES + 7}")
 WORKERS = (OUT_OF_RANGE, "use a number from 1 to 16")
 PORTS = (OUT_OF_RANGE, "use a number from 1 to 65535")
+AT_MOST = "use at most 256 tables, with {}a host, a port from 1 to 65535, and a {} of at most 255 bytes"
+SEEDS, RULES = (OUT_OF_RANGE, AT_MOST.format("type 0 or 1, ", "selector")), (OUT_OF_RANGE, AT_MOST.format("", "prefix"))
 FAULTS = {
     "a name with a TAB": (put(b"docs/a\tb.txt"), "20 file 0", "ROOT/docs/a\\tb.txt", BAD_NAME),
     "a name with an LF": (put(b"z\n"), "20 file 0", "ROOT/z\\n", BAD_NAME),
@@ -195,8 +211,18 @@ FAULTS = {
     "a link to its own folder": (put_link("a", "."), "22 file 0", "ROOT/" + "/".join("a" * 128), LONG),
     "a file that is too large": (put_sparse(1, LARGEST + 1), "23 file 1", "ROOT/1.gif", LARGE_FILE, f"size: {LARGEST + 1}"),
     "a file that is much too large": (put_sparse(3 * LARGEST), "23 file 0", "ROOT/0.gif", LARGE_FILE, f"size: {3 * LARGEST}"),
-    "files that are too large": (put_sparse(*MOST_FILES, 7), "23 file 4", "ROOT/4.gif", LARGE_SITE, f"size: {MOST_BYTES + 7}"),
-    "too many folders": (put_folders(MOST_NODES), "23 file 0", f"ROOT/{MOST_NODES - 1:04}", MANY, f"size: {MOST_NODES + 1}"),
+    "files that are too large": (
+        both(put_sparse(*MOST_FILES, 7, LARGEST), put_hidden), "23 file 4",
+        report("23", "ROOT/4.gif", *OVER) + WHOLE.format(8, 2, MOST_BYTES + LARGEST + 19).encode(),
+    ),
+    "files that are too large, and a path that is too long": (
+        both(put_sparse(*MOST_FILES, 7), put(b"5/" + b"a" * 253)), "23 file 4",
+        report("23", "ROOT/4.gif", *OVER) + WHOLE.format(5, 2, MOST_BYTES + 7).replace("files", "at least files").encode(),
+    ),
+    "too many folders": (
+        put_folders(MOST_NODES + 5), "23 file 0",
+        report("23", f"ROOT/{MOST_NODES - 1:04}", MANY, f"size: {MOST_NODES + 1}") + WHOLE.format(0, MOST_NODES + 6, 0).encode(),
+    ),
     "a bad line": (put(b"docs/.menu", b"text\n\n1a\tb\tc\n"), "24 file 0 line 3", "ROOT/docs/.menu", BAD_LINE, "line: 3"),
     "a port that is none": (put(b".menu", b"1a\tb\tc\t70000\n"), "24 file 0 line 1", "ROOT/.menu", BAD_LINE, "line: 1"),
     "the second of three files": (put_empty(b"a", b"b\t", b"c"), "20 file 1", "ROOT/b\\t", BAD_NAME),
@@ -219,16 +245,21 @@ FAULTS = {
     "a table twice": (more('[[allow]]\nhost = "a"\n[allow]\n'), "30", "FILE", TWICE, "line: 6", "key: [allow]"),
     "no host": (say('root = "ROOT"\n'), "31 host", "FILE", NO_KEY, "key: host"),
     "no root": (say(HEAD), "31 root", "FILE", NO_KEY, "key: root"),
-    "a seed without a host": (more('[[seeds]]\nselector = "/"\n'), "31 seeds", "FILE", NO_KEY, "key: seeds"),
+    "a seed without a host": (more('[[seeds]]\nselector = "/"\n'), "31 seeds", "FILE", NO_KEY, "key: seeds[0].host"),
     "a port that is a text": (say(HEAD + 'port = "70"\nroot = "ROOT"\n'), "32 port", "FILE", WRONG_KIND, "key: port"),
     "seeds that are a table": (more('[seeds]\nhost = "a"\n'), "32 seeds", "FILE", WRONG_KIND, "key: seeds"),
+    "a third seed of no type": (
+        more(SEED * 3 + 'type = "2"\nport = 0\n[[seeds]]\n'), "33 seeds", "FILE", SEEDS, "key: seeds[2].type",
+    ),
+    "a rule that isn't a table": (more('deny = [{ host = "a" }, 7]\n'), "32 deny", "FILE", WRONG_KIND, "key: deny[1]"),
+    "too many rules, one without a host": (more('[[allow]]\n' * 257), "33 allow", "FILE", RULES, "key: allow"),
     "a port out of range": (say(HEAD + 'port = 65536\nroot = "ROOT"\n'), "33 port", "FILE", PORTS, "key: port"),
     "no workers": (more("workers = 0\n"), "33 workers", "FILE", WORKERS, "key: workers"),
     "a key that isn't known": (more("prot = 70\n"), "34", "FILE", UNKNOWN, "key: prot"),
     "two keys that aren't known, one with a TAB": (
         more('zebra = 1\n"a\\tb" = 2\n[[deny]]\nhosts = 1\n'), "34",
         report("34", "FILE", UNKNOWN, "key: a\\tb") + report("34", "FILE", UNKNOWN, "key: zebra")
-        + report("34", "FILE", UNKNOWN, "key: deny", "unknown: hosts") + report("31", "FILE", NO_KEY, "key: deny"),
+        + report("34", "FILE", UNKNOWN, "key: deny", "unknown: hosts") + report("31", "FILE", NO_KEY, "key: deny[0].host"),
     ),
     "a key behind a seed": (more(SEED + "threads = 1\n"), "34", "FILE", UNKNOWN, "key: seeds", "unknown: threads"),
     "a key of a rule": (more('[[deny]]\nhost = "a"\nselector = "/"\n'), "34", "FILE", UNKNOWN, "key: deny", "unknown: selector"),
@@ -236,17 +267,20 @@ FAULTS = {
         say('host = "h"\nworkers = 17\nthreads = 0\nsead = 1\n[[seeds]]\nselektor = "/"\n[[allow]]\nhost = "h"\nport = "70"\n'),
         "34",
         report("34", "FILE", UNKNOWN, "key: sead") + report("34", "FILE", UNKNOWN, "key: seeds", "unknown: selektor")
-        + report("31", "FILE", NO_KEY, "key: root") + report("31", "FILE", NO_KEY, "key: seeds")
-        + report("32", "FILE", WRONG_KIND, "key: allow") + report("33", "FILE", WORKERS, "key: workers")
+        + report("31", "FILE", NO_KEY, "key: root") + report("31", "FILE", NO_KEY, "key: seeds[0].host")
+        + report("32", "FILE", WRONG_KIND, "key: allow[0].port") + report("33", "FILE", WORKERS, "key: workers")
         + report("33", "FILE", (OUT_OF_RANGE, "use a number from 1 to 8"), "key: threads"),
     ),
     "a seed that isn't allowed": (more(SEED), "50 seed 0", "FILE", OUTSIDE, "seed: 0"),
     "a second seed that is denied": (more(DENIED_SEED), "50 seed 1", "FILE", OUTSIDE, "seed: 1"),
     "a folder's fault before a seed's": (both(more(SEED), put(b"search")), "21 file 0", "ROOT/search", RESERVED),
-    "settings that aren't UTF-8": (say(b"host = '\xff'\n"), "80", "FILE", UNREADABLE),
-    "settings that are too large": (say("#" * (MOST_SETTINGS + 1)), "80", "FILE", UNREADABLE),
-    "no settings": (remove, "80", "FILE", UNREADABLE),
-    "settings that are a folder": (both(remove, lambda site: site.settings.mkdir()), "80", "FILE", UNREADABLE),
+    "settings that aren't UTF-8": (say(b"host = '\xff'\n"), "80", "FILE", NO_TEXT),
+    "settings that are too large": (say("#" * (MOST_SETTINGS + 1)), "80", "FILE", LARGE_SETTINGS),
+    "no settings": (remove, "80", "FILE", NO_FILE),
+    "settings that are a folder": (both(remove, lambda site: site.settings.mkdir()), "80", "FILE", FOLDER),
+    "settings that are a link to itself": (
+        both(remove, lambda site: site.settings.symlink_to(site.settings.name)), "80", "FILE", CIRCLE,
+    ),
 }
 # Settings, and the line of their fault.
 SETTINGS = {
@@ -287,6 +321,7 @@ GOOD_LINES = [b"0x\t" + b"a" * 255, b".", b".\r\n", b"\n", b"0x\ta\t b \t 70 ", 
 CLOSED = {
     "a folder that may not be listed": (put_closed(b"shut/a", "shut"), "26", "ROOT/shut", DENIED),
     "a file that may not be read": (put_closed(b"shut.txt", "shut.txt", 0, b"a\n"), "26", "ROOT/shut.txt", DENIED),
+    "settings that may not be read": (lambda site: site.settings.chmod(0), "80", "FILE", SHUT),
     "a folder that may not be entered": (put_closed(b"locked/a.txt", "locked", 0o444), "26", "ROOT/locked/a.txt", DENIED),
 }
 

@@ -140,9 +140,11 @@ class Checks:
         return rest, error, status
 
     def expect(self, words, pattern, is_sound):
-        """Expects such lines, whose addresses of this host stand as HERE."""
+        """Expects such lines, whose addresses of this host stand as HERE, and then the report of 81 unless it is sound."""
         lines, error, status = self.lines(*words)
-        pattern = pattern.replace("HERE", f"{HOST}:{self.port}") + ("sound\n" if is_sound else "")
+        key = "" if "--listen" in words[:-1] else "key: host\n"
+        fault = f"fault: 81\npath: {self.settings}\n{key}cause: .*\nremedy: .*\n"
+        pattern = pattern.replace("HERE", f"{HOST}:{self.port}") + ("sound\n" if is_sound else fault)
         ended = (b"", 0) if is_sound else (NOT_LISTENING, 1)
         found = (bool(re.fullmatch(pattern, lines)), error, status)
         self.test.expect(f"a check of {words} is {lines!r}", found, (True, *ended))
@@ -156,6 +158,7 @@ def check_checks(test):
     rows = (
         ((HOST,), "resolves to: HERE\n", True),
         ((HOST, "--listen"), "resolves to: HERE\ncan listen at: HERE\n", True),
+        ((ABSENT,), f"resolves to: .*\nnot of this machine: {ABSENT}: {of_another}", False),
         ((ABSENT, "--listen"), f"resolves to: .*\n.*{of_another}", False),
         ((nowhere,), "resolves to nothing: .*\n", False),
         ((nowhere, "--listen"), "resolves to nothing: .*\n", False),

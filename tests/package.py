@@ -14,11 +14,12 @@ import os
 import pathlib
 import re
 import shutil
+import socket
 import subprocess
 import sys
 import time
 
-from running.server import ROOT, WAIT, ask, run_test, until_true
+from running.server import HOST, ROOT, WAIT, ask, run_test, until_true
 
 DIST = ROOT / "packaging" / "dist.py"
 SITE = ROOT / "packaging" / "site"
@@ -26,6 +27,8 @@ NOBODY = "65534:65534"
 PORT = 70
 DOCUMENTS = "usr/share/doc/hole"
 COMPLETION = "usr/share/bash-completion/completions/hole"
+# Keys of the unit that systemd before version 254 doesn't know, and leaves out.
+NEW_KEYS = re.compile(r"Unknown key(?: name)? '(?:RestartSteps|RestartMaxDelaySec)'")
 # Words in documents that look like names of files of the repository or of the package.
 NAMED = re.compile(r"\b(?:docs|tests|tools|bench|crates|packaging|examples|man)/[\w./-]*\w|\b[\w-]+\.md\b")
 
@@ -100,6 +103,28 @@ def check_unreleased(test):
     ran = dist(*words, "--unreleased", script=script)
     marked = re.match(r"hole [\d.]+\+unreleased(?:~unproved)?\n", ran.stdout) is not None
     test.expect("unreleased changes: the version is marked", (ran.returncode, marked), (0, True))
+
+
+def check_look(test):
+    """`make dist` refuses a tree that can't be packed before it proves anything."""
+    clone, tools = clone_of(test, "looked"), test.site({})
+    for file in ("dist.py", "dist.mk"):
+        shutil.copy(ROOT / "packaging" / file, clone / "packaging" / file)
+    (tools / "rt").write_text("#!/bin/sh\ntouch $(dirname $0)/called\nexit 1\n")
+    (tools / "rt").chmod(0o755)
+    log, env = clone / "CHANGELOG.md", {**os.environ, "PATH": f"{tools}:{os.environ['PATH']}"}
+    released = re.sub(r"(?ms)^## \[Unreleased\].*?(?=^## )", "", log.read_text())
+    for name, text, options, told in (
+        ("unreleased changes", f"## [Unreleased]\n\n- Frogs.\n\n{released}", "--dirty", "has unreleased changes"),
+        ("changes that aren't committed", released + "\n", "", "aren't committed"),
+        ("a version without its changes", re.sub(r"(?m)^## .*$", "", released), "--dirty", "has no section"),
+    ):
+        log.write_text(text)
+        ran = run("make", "dist", f"OPTIONS={options}", cwd=clone, env=env)
+        test.expect(f"{name}: are refused at once", (told in ran.stderr, (tools / "called").exists()), (True, False))
+    log.write_text(released)
+    ran = run("make", "dist", "OPTIONS=--dirty", cwd=clone, env=env)
+    test.expect("a release is proved before it is packed", (ran.returncode, (tools / "called").exists()), (2, True))
 
 
 def check_same_bytes(test, out, words):
@@ -203,6 +228,8 @@ def check_completion(test, machine):
     test.expect("settings", completed(file, place, "hole", "check", ""), ["hole.toml", "site"])
     test.expect("any file for the log", completed(file, place, "hole", "serve", "hole.toml", "--log", "l"), ["log.txt"])
     test.expect("any file for the list", completed(file, place, "hole", "serve", "hole.toml", "--list-found", "l"), ["log.txt"])
+    for command in ("serve", "check"):
+        test.expect(f"{command}: any file for aliases", completed(file, place, "hole", command, "hole.toml", "--aliases", "l"), ["log.txt"])
     for option in ("--requests", "--fetch-timeout", "--fetch-pause"):
         test.expect(f"no file for the number of {option}", completed(file, place, "hole", "serve", "hole.toml", option, ""), [])
 
@@ -219,7 +246,7 @@ def check_unit(test, machine):
         place.write_text(unit.read_text().replace("/usr/bin/hole", f"{machine.root}/usr/bin/hole"))
     for unit in units:
         ran = run("systemd-analyze", "verify", "--man=no", test.folder / "units" / unit.name)
-        told = [line for line in ran.stderr.splitlines() if "hole" in line]
+        told = [line for line in ran.stderr.splitlines() if "hole" in line and not NEW_KEYS.search(line)]
         test.expect(f"{unit.name} is sound", (ran.returncode, told), (0, []))
 
 
@@ -274,6 +301,35 @@ def check_owner(test, machine, package):
     test.expect("a purge leaves the owner's files", files_below(machine.root / "srv/gopher"), [".menu", "own.txt"])
 
 
+def check_start(test):
+    """Where systemd runs, an installation starts the server; if another program holds its port, it says so, and neither starts nor
+    enables it."""
+    folder = test.site({"run/systemd/system/a": b"", "site/a.txt": b"a\n"})
+    for name, code in ("deb-systemd-helper", 0), ("deb-systemd-invoke", 0), ("systemctl", 3), ("hole", None):
+        script = f'exec {test.program} "$@"' if code is None else f'echo {name} "$@" >> {folder}/calls\n[ "$2" != is-active ] || exit {code}'
+        (folder / name).write_text(f"#!/bin/sh\n{script}\n")
+        (folder / name).chmod(0o755)
+    text = (ROOT / "packaging/debian/postinst").read_text()
+    for place in ("/run/systemd/system", "/srv/gopher", "/etc/hole", "/usr/share/hole"):
+        text = text.replace(place, f"{folder}{place}")
+    (folder / "etc/hole").mkdir(parents=True)
+    (folder / "srv/gopher").mkdir(parents=True)
+    (folder / "postinst").write_text(text)
+    with socket.create_server((HOST, 0)) as listener:
+        port = listener.getsockname()[1]
+        (folder / "etc/hole/hole.toml").write_text(f'host = "{HOST}"\nport = {port}\nroot = "{folder}/site"\n')
+        for name, holder in ("a port that is taken", listener), ("a free port", None):
+            if not holder:
+                listener.close()
+            (folder / "calls").write_text("")
+            ran = run("sh", folder / "postinst", "configure", "", env={"PATH": f"{folder}:/usr/bin:/bin"})
+            calls = (folder / "calls").read_text()
+            told = f"can't listen at: {HOST}:{port}: Address already in use" in ran.stdout
+            wanted = (0, bool(holder), not holder, not holder)
+            got = (ran.returncode, told, "invoke start hole" in calls, "helper enable hole" in calls)
+            test.expect(f"{name}: status, said, started, enabled", got, wanted)
+
+
 def check_lintian(test, package):
     if is_here("lintian"):
         ran = run("lintian", "--allow-root", "--fail-on", "error,warning", package)
@@ -308,4 +364,4 @@ def check_packages(test):
 
 
 if __name__ == "__main__":
-    run_test("package", __doc__, check_refusals, check_unreleased, check_packages)
+    run_test("package", __doc__, check_refusals, check_unreleased, check_look, check_start, check_packages)

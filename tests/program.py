@@ -14,6 +14,7 @@ import pathlib
 import re
 import shutil
 import signal
+import socket
 import subprocess
 import sys
 import urllib.parse
@@ -230,6 +231,30 @@ def check_replays(test):
     test.expect("replay of a whole search", run(test, ["replay"], script), (WHOLE_SEARCH[1], b"", 0))
 
 
+def check_own_settings(test):
+    """One's own settings are checked before they are served: a mistake is told with its cause and remedy."""
+    folder, port = test.site({"mine/a.txt": b"hello\n"}), free_port()
+    words = [ROOT / "tools/run_example.py", "--program", test.program]
+    home = f'host = "{HOST}"\nport = {port}\nroot = '
+    asked = lambda *more: subprocess.run([*words, *more, "my.toml"], cwd=folder, capture_output=True, text=True, timeout=WAIT)
+    for name, text, told in (
+        ("a key that is missing", 'root = "mine"\n', "key: host\ncause: "),
+        ("a folder that is missing", f'{home}"none"\n', "cause: no file or folder exists at this path\nremedy: "),
+        ("a text that isn't TOML", "host = \n", "fault: 30\n"),
+    ):
+        (folder / "my.toml").write_text(text)
+        for more in ((), ("--check",)):
+            ran = asked(*more)
+            got = (ran.returncode, told in ran.stdout, len(ran.stderr.splitlines()))
+            test.expect(f"{name}: status, report, lines of {more}", got, (1, True, 1))
+    (folder / "my.toml").write_text(f'{home}"mine"\n')
+    ran = asked("--check")
+    test.expect("sound settings: status and report", (ran.returncode, ran.stdout.endswith("\nsound\n")), (0, True))
+    with socket.create_server((HOST, port)):
+        ran = asked()
+        test.expect("a port that is taken: status and report", (ran.returncode, "can't listen at: " in ran.stdout), (1, True))
+
+
 def check_ends(test):
     """The server is gone once the script's whole group got a signal."""
     # what starts a job in the background may have it ignore SIGINT, and its processes inherit that
@@ -267,4 +292,4 @@ def check_toolchain(test):
 
 if __name__ == "__main__":
     of_streams = (check_reads, check_writes, check_errors, check_starts)
-    run_test("program", __doc__, *of_streams, check_readme, check_first_site, check_replays, check_ends, check_toolchain)
+    run_test("program", __doc__, *of_streams, check_readme, check_first_site, check_replays, check_own_settings, check_ends, check_toolchain)

@@ -115,6 +115,11 @@ class Documents(unittest.TestCase):
             for folder in [site, *(path for path in site.rglob("*") if path.is_dir())]:
                 self.assertRegex((folder / ".menu").read_text(), r"\A[^\t\n]+\n\n", str(folder))
 
+    def test_no_line_of_the_first_sites_begins_with_a_period(self):
+        """Clients show the period that the protocol adds to such a line."""
+        for path in (path for site in ("examples/site", "packaging/site") for path in (ROOT / site).rglob("*.txt")):
+            self.assertNotRegex(path.read_text(), r"(?m)^\.", str(path))
+
     def test_each_file_says_what_it_holds(self):
         for path in (path for crate in numbers_of_code.crates() for path in crate.glob("src/**/*.r[ts]")):
             if path.name != "lib.rt":

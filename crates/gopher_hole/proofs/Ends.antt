@@ -10,7 +10,7 @@ use Rattle.gopher_catalogue.specs.declared.frontier.sizes.Status.{Status}
 use Rattle.gopher_catalogue.specs.declared.event.EventData.{EventData}
 use Rattle.gopher_crew.specs.Kept.{IsStatusAfter}
 use Rattle.gopher_script.specs.Answer.{status_line}
-use Rattle.gopher_hole.specs.Ending.{AreSettings, FoundSound, HasServed, HasWritten, listening_line, opening_record}
+use Rattle.gopher_hole.specs.Ending.{AreSettings, FoundSound, HasServed, listening_line, opening_record}
 
 -- bytes were sent, and then the writer was flushed
 pub sends_kept : (old mid new : Option (List ℕ)) (bytes : List ℕ) → Appends old mid bytes → Keeps mid new → Appends old new bytes
@@ -28,16 +28,11 @@ serves contents (Ok value) home desk settings status old mid new same begun read
     (settings, read, status, opened, Appends-trans (held old) (held mid) (held new) _ _ listened ends)
 serves contents (Err why) home desk settings status old mid new same begun read after listens ends = tt
 
--- so bytes were written
-pub writes_some : {D : Type 0} (contents : D → Option (List ℕ)) (old new : WatchedData D) (bytes : List ℕ) → HasSent contents old new bytes → HasWritten contents old new
-unfolding HasWritten
-writes_some contents old new bytes sent = (bytes, sent)
-
--- the report on a sound site was written in three parts, unless the last one failed
-pub finds_sound : {D T E : Type 0} (contents : D → Option (List ℕ)) (end : Result T E) (old mid then new : WatchedData D) (words : List ℕ)
-    → HasSent contents old mid words → HasWritten contents mid then → OnOk end (HasSent contents then new (codes "sound\n")) → OnOk end (FoundSound contents old new)
-unfolding HasWritten FoundSound
-finds_sound contents (Ok value) old mid then new words first (lines, second) last =
+-- the report on a sound site was written in two parts, unless the last one failed
+pub finds_sound : {D T E : Type 0} (contents : D → Option (List ℕ)) (end : Result T E) (old mid new : WatchedData D) (words : List ℕ)
+    → HasSent contents old mid words → OnOk end (HasSent contents mid new (codes "sound\n")) → OnOk end (FoundSound contents old new)
+unfolding FoundSound
+finds_sound contents (Ok value) old mid new words first last =
     let held : WatchedData _ → Option (List ℕ) = λ writer. contents writer.device in
-    (words ++ lines, Appends-trans (held old) (held then) (held new) _ _ (Appends-trans (held old) (held mid) (held then) words lines first second) last)
-finds_sound contents (Err why) old mid then new words first second last = tt
+    (words, Appends-trans (held old) (held mid) (held new) _ _ first last)
+finds_sound contents (Err why) old mid new words first last = tt

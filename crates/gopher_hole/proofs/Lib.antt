@@ -1,3 +1,4 @@
+mod AliasLemmas
 mod Ends
 mod Fetches
 mod Searches

@@ -8,7 +8,8 @@ use Rattle.gopher_item.specs.Place.{HomeData}
 use Rattle.gopher_page.specs.Query.{TermData}
 use Rattle.gopher_tree.specs.Files.{File}
 use Rattle.gopher_index.specs.declared.hit.Hit.{Hit}
-use Rattle.gopher_hole.specs.Answer.{SiteData, LeadsOn, SearchesTakeNothingBack, AnswersLine, Searches, terms_of_line}
+use Rattle.gopher_hole.specs.Answer.{SiteData, LeadsOn, NoAliasesChangeNothing, SearchesTakeNothingBack, AnswersAliased, AnswersLine, Searches, terms_of_line, terms_with}
+use Rattle.gopher_hole.specs.Aliases.{Alias}
 
 sees_on : (a b : SiteData) → Leads LeadsOn a b → SeesOn a.pass b.pass
 sees_on a b stays = record { seen = prefix_self a.pass.seen; told = prefix_self a.pass.told }
@@ -32,3 +33,10 @@ searched_sees_on old new (term ∷ terms) (Some hits) found = found.sees_on
 
 pub answered_sees_on : (files : List File) (home : HomeData) (old new : PassData) (line reply : List ℕ) → AnswersLine files home old new line reply → SeesOn old new
 answered_sees_on files home old new line reply answered = searched_sees_on old new (terms_of_line line) answered.outcome answered.searched
+
+pub aliased_sees_on : (aliases : List Alias) (files : List File) (home : HomeData) (old new : PassData) (line reply : List ℕ) → AnswersAliased aliases files home old new line reply → SeesOn old new
+aliased_sees_on aliases files home old new line reply answered = searched_sees_on old new (terms_with aliases line) answered.outcome answered.searched
+
+-- a site without aliases
+pub no_aliases : NoAliasesChangeNothing
+no_aliases files home old new line reply answered = record { outcome = answered.outcome; searched = answered.searched; reply_is = answered.reply_is }

@@ -82,11 +82,6 @@ HasServed contents old new =
     × (status : Status) × IsStatusAfter (opening_record settings) status
     × HasSent contents old new (listening_line settings.home ++ status_line status)
 
--- bytes were written
-unfoldable pub HasWritten : {D : Type 0} → (D → Option (List ℕ)) → WatchedData D → WatchedData D
-    → Type 0
-HasWritten contents old new = (bytes : List ℕ) × HasSent contents old new bytes
-
 -- a report was written that ends with the line `sound`
 unfoldable pub FoundSound : {D : Type 0} → (D → Option (List ℕ)) → WatchedData D → WatchedData D
     → Type 0

@@ -7,6 +7,7 @@ use Rattle.gopher_tree.specs.declared.fault.TreeFault.{TreeFault}
 use Rattle.gopher_catalogue.specs.Fault.{open_fault_code}
 use Rattle.gopher_crew.specs.Fault.{desk_fault_code}
 use Rattle.gopher_script.specs.Fault.{replay_fault_code}
+use Rattle.gopher_hole.specs.Aliases.{alias_fault_code}
 use Rattle.gopher_hole.specs.declared.fault.ProgramFault.{ProgramFault}
 use Rattle.gopher_hole.specs.declared.fault.Detail.{Detail}
 use Rattle.gopher_catalogue.specs.declared.event.Why.{Why}
@@ -16,6 +17,7 @@ use Rattle.gopher_scope.specs.declared.fault.SiteFault.TheVariants as site
 use Rattle.gopher_tree.specs.declared.fault.TreeFault.TheVariants as tree_fault
 use Rattle.gopher_catalogue.specs.declared.fault.OpenFault.TheVariants as open_fault
 use Rattle.gopher_script.specs.declared.fault.ReplayFault.TheVariants as replay_fault
+use Rattle.gopher_hole.specs.declared.aliases.AliasFault.TheVariants as alias_fault
 use Rattle.gopher_hole.specs.declared.fault.ProgramFault.TheVariants as fault
 use Rattle.gopher_hole.specs.declared.fault.Detail.TheVariants as detail
 
@@ -23,11 +25,14 @@ abbrev pub program_fault_code : ProgramFault → ℕ
 program_fault_code (fault.Replay why) = replay_fault_code why
 program_fault_code fault.WriteFailed = 13
 program_fault_code (fault.Site why) = site_fault_code why
+program_fault_code (fault.Aliases why) = alias_fault_code why
+program_fault_code fault.AliasesUnreadable = 36
 program_fault_code (fault.Open why) = open_fault_code why
 program_fault_code (fault.Desk why) = desk_fault_code why
 program_fault_code fault.StrangeShare = 62
 program_fault_code fault.ListenFailed = 81
 program_fault_code fault.NoThread = 82
+program_fault_code fault.Warned = 83
 program_fault_code fault.NoMemory = 90
 
 abbrev pub tree_details : TreeFault → Detail × Detail
@@ -50,6 +55,7 @@ details_of (fault.Site (site.Settings (settings_fault.WrongKind key))) =
 details_of (fault.Site (site.Settings (settings_fault.OutOfRange key))) =
     (detail.Key key, detail.Nothing)
 details_of (fault.Site (site.SeedOutOfScope seed)) = (detail.Seed seed, detail.Nothing)
+details_of (fault.Aliases (alias_fault.BadLine line)) = (detail.Line line, detail.Nothing)
 details_of (fault.Open (open_fault.SeedOutOfScope seed)) = (detail.Seed seed, detail.Nothing)
 details_of why = (detail.Nothing, detail.Nothing)
 

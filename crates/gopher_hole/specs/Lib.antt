@@ -1,3 +1,4 @@
+pub mod Aliases
 pub mod Answer
 pub mod Cause
 pub mod CrawlEnd

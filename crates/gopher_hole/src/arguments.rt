@@ -7,7 +7,7 @@ use std::alloc::{AllocError, Global};
 use std::net::{IpAddr, Ipv6Addr, SocketAddr};
 
 // The version. Nothing else in the repository states it but CHANGELOG.md.
-const VERSION: &str = "0.2.0";
+const VERSION: &str = "0.3.0";
 
 // The greatest number of connections after which a server may end.
 const MAX_REQUESTS: i64 = 1_000_000;
@@ -44,6 +44,14 @@ pub struct Checking<'a> {
     /// Where the server will listen, as in `Serving`. If there are none, it will listen at the
     /// addresses of the settings' host.
     pub addresses: Vec<SocketAddr>,
+    /// Whether to leave out files and folders that can't be served, as in `Serving`.
+    pub leave_out: bool,
+    /// The path of the file of aliases, as in `Serving`.
+    pub aliases: Option<&'a str>,
+    /// Whether to list all that is counted.
+    pub all: bool,
+    /// Whether a warning is a failure.
+    pub strict: bool,
 }
 
 /// A text that is printed and ends the program.
@@ -74,6 +82,10 @@ pub struct Serving<'a> {
     pub fetch_pause: u64,
     /// The path of the list of found places; `None` if none is written.
     pub list_found: Option<&'a str>,
+    /// Whether to leave out files and folders that can't be served, instead of failing.
+    pub leave_out: bool,
+    /// The path of the file of aliases; `None` if there are no aliases.
+    pub aliases: Option<&'a str>,
     /// Where the server listens; port 0 stands for the settings' port. If there are none, it
     /// listens at the addresses of the settings' host.
     pub addresses: Vec<SocketAddr>,
@@ -88,11 +100,27 @@ fn option<'a>(alloc: Global, name: &'a str, value: &'a str, help: &'a str) -> Ar
         .help(help)
 }
 
-fn progress_argument<'a>(alloc: Global) -> Arg<'a> {
-    Arg::new(alloc, "progress")
-        .long("progress")
+// An option without a value.
+fn flag<'a>(alloc: Global, name: &'a str, help: &'a str) -> Arg<'a> {
+    Arg::new(alloc, name)
+        .long(name)
         .action(ArgAction::SetTrue)
-        .help("Print what fails, and the progress of the crawl, on standard error")
+        .help(help)
+}
+
+fn progress_argument<'a>(alloc: Global) -> Arg<'a> {
+    let help = "Print what fails, and the progress of the crawl, on standard error";
+    flag(alloc, "progress", help)
+}
+
+fn leave_out_argument<'a>(alloc: Global) -> Arg<'a> {
+    let help = "Leave out files and folders that can't be served, and start";
+    flag(alloc, "leave-out", help)
+}
+
+fn aliases_argument<'a>(alloc: Global) -> Arg<'a> {
+    let help = "Keep old selectors working: lines of OLD, a TAB and SELECTOR in this file";
+    option(alloc, "aliases", "FILE", help)
 }
 
 fn timeout_argument<'a>(alloc: Global) -> Arg<'a> {
@@ -124,10 +152,19 @@ fn check_command<'a>(alloc: Global) -> Result<Command<'a>, AllocError> {
     let listens = option(alloc, "listen", "ADDRESS", help)
         .num_args(0..=1)
         .action(ArgAction::Append);
+    let leave_out = "Check what serve --leave-out would serve, and list what it leaves out";
+    let aliases = "Check this file of aliases too";
+    let arguments = vec![in alloc;
+        settings_argument(alloc),
+        listens,
+        flag(alloc, "all", "List all that is counted"),
+        flag(alloc, "strict", "Exit with status 1 if there is a warning"),
+        flag(alloc, "leave-out", leave_out),
+        option(alloc, "aliases", "FILE", aliases),
+    ]?;
     Command::new(alloc, "check")
         .about("Report what is wrong with the settings or the folder, and where")
-        .arg(settings_argument(alloc))?
-        .arg(listens)
+        .args(arguments)
 }
 
 fn serve_command<'a>(alloc: Global) -> Result<Command<'a>, AllocError> {
@@ -146,6 +183,8 @@ fn serve_command<'a>(alloc: Global) -> Result<Command<'a>, AllocError> {
         timeout_argument(alloc),
         pause_argument(alloc),
         list_argument(alloc),
+        leave_out_argument(alloc),
+        aliases_argument(alloc),
     ]?;
     Command::new(alloc, "serve")
         .about("Serve a folder, crawl the allowed hosts and answer searches")
@@ -283,6 +322,10 @@ fn read_check<'a>(alloc: Global, check: &ArgMatches<'a>) -> Result<Asked<'a>, No
             settings,
             listens: check.contains_id("listen"),
             addresses,
+            leave_out: check.get_flag("leave-out"),
+            aliases: check.get_str("aliases"),
+            all: check.get_flag("all"),
+            strict: check.get_flag("strict"),
         })),
         Err(told) => Ok(told),
     }
@@ -320,6 +363,8 @@ fn read_serve<'a>(alloc: Global, serve: &ArgMatches<'a>) -> Result<Asked<'a>, No
         fetch_timeout: seconds_of(serve),
         fetch_pause: serve.get_one::<u64>("fetch-pause").unwrap_or(0),
         list_found: serve.get_str("list-found"),
+        leave_out: serve.get_flag("leave-out"),
+        aliases: serve.get_str("aliases"),
         addresses,
     }))
 }

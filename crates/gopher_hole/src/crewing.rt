@@ -11,13 +11,13 @@ use crate::arguments::Serving;
 use crate::fault::ProgramFault;
 use crate::fetching::{CrawlFetch, CrawlState};
 use crate::listening::listen;
-use crate::opening::{Opened, open, read_settings};
+use crate::opening::{Opened, open, read_aliases, read_settings};
 use crate::progress::{Reporting, crawl_and_tell};
+use crate::site::Content;
 use crate::starting::{AnyEnd, Started, ThreadsEnd, join_all, start_threads};
 use gopher_catalogue::Status;
 use gopher_crew::{Blank, Crew, Desk, Pass, Share, WorkEnd};
 use gopher_item::{Home, NoMemory};
-use gopher_serve::Replies;
 use gopher_server::{OpenLog, ServerSetup, ThreadEnd, end_log, max_connections, set_up, start_log};
 use gopher_text::Watched;
 use mio::net::TcpListener;
@@ -96,17 +96,17 @@ fn start<C: Crew + Send + Sync + 'static, R: System + Net>(
     rt: &R,
     alloc: Global,
     server: ServerSetup,
-    replies: Replies,
+    content: Content,
     passes: Vec<Pass<C>>,
 ) -> Result<Started<AnyEnd>, ProgramFault>
     ensures { IfOk result (λ started. StartsAll passes started) }
 {
     let tells = server.tells;
     let setups = set_up(rt, alloc, server, passes.len())?;
-    let Ok(replies) = Arc::new(alloc, replies) else {
+    let Ok(content) = Arc::new(alloc, content) else {
         return Err(ProgramFault::NoMemory);
     };
-    let started = start_threads(rt, alloc, &replies, setups, passes, tells);
+    let started = start_threads(rt, alloc, &content, setups, passes, tells);
     if started.threads.is_empty() {
         return Err(ProgramFault::NoThread);
     }
@@ -192,13 +192,14 @@ fn listen_and_serve<
     rt: &R,
     serving: &Serving<'_>,
     desk: &Desk<C, &R>,
-    replies: Replies,
+    content: Content,
     passes: Vec<Pass<C>>,
     pairs: Vec<(CrawlFetch<'a>, Share<C>)>,
     reporting: Reporting<'_>,
     output: &mut Watched<W>,
 ) -> Result<Vec<WorkEnd<CrawlFetch<'a>, C>>, ProgramFault>
-    ensures { OnOk result (HasSent W.contents output.old output.new (listening_line replies.home)) }
+    ensures { OnOk result (HasSent W.contents output.old output.new
+        (listening_line content.replies.home)) }
 {
     if let Some(bytes) = serving.crawl_memory {
         desk.limit_memory(bytes);
@@ -210,7 +211,7 @@ fn listen_and_serve<
         0
     };
     let threads = passes.len();
-    let home = replies.home();
+    let home = content.replies.home();
     let (listeners, places) = open_listeners(rt, alloc, home, serving, threads, workers, output)?;
     let log = start_log(rt, alloc, serving.log);
     let server = ServerSetup {
@@ -220,7 +221,7 @@ fn listen_and_serve<
         log: log.as_ref().and_then(|log| log.queue()),
         tells: serving.progress,
     };
-    let started = start(rt, alloc, server, replies, passes);
+    let started = start(rt, alloc, server, content, passes);
     let ended = crawl_to_end(rt, alloc, started, desk, pairs, reporting);
     end_log(rt, alloc, log);
     ended
@@ -235,19 +236,20 @@ fn serve_and_close<
 >(
     rt: &R,
     serving: &Serving<'_>,
-    replies: Replies,
+    content: Content,
     desk: Desk<C, &R>,
     passes: Vec<Pass<C>>,
     shares: Vec<Share<C>>,
     reporting: Reporting<'_>,
     out: &mut Watched<W>,
 ) -> Result<Status, ProgramFault>
-    ensures line { OnOk result (HasSent W.contents out.old out.new (listening_line replies.home)) }
+    ensures line { OnOk result (HasSent W.contents out.old out.new
+        (listening_line content.replies.home)) }
     ensures status { IfOk result (IsStatusAfter desk.entry) }
 {
     let alloc = rt.alloc();
     let pairs = pairs_of(alloc, shares, reporting.state)?;
-    let ends = listen_and_serve(rt, serving, &desk, replies, passes, pairs, reporting, out)?;
+    let ends = listen_and_serve(rt, serving, &desk, content, passes, pairs, reporting, out)?;
     close(alloc, desk, ends)
 }
 
@@ -258,7 +260,8 @@ fn serve_and_close<
 ///
 /// # Errors
 ///
-/// Before it listens, those of `read_settings`, `open` and `listen`. Later:
+/// Before it listens, those of `read_settings`, `read_aliases`, `open` and `listen`, in this order.
+/// Later:
 ///
 /// - `ListenFailed` (81): a thread could no longer accept connections
 /// - `NoThread` (82): a server thread couldn't be started
@@ -276,20 +279,22 @@ pub fn serve<
 {
     let alloc = rt.alloc();
     let settings = read_settings(rt, alloc, serving.settings)?;
+    let aliases = read_aliases(rt, alloc, serving.aliases)?;
     let state = CrawlState::new(alloc, &settings.home, settings.tries, serving)?;
     let reporting = Reporting {
         state: &state,
         list_found: serving.list_found,
     };
-    let opened = open::<C, R>(rt, alloc, settings, blank)?;
+    let opened = open::<C, R>(rt, alloc, settings, serving.leave_out, blank)?;
     let Opened {
         replies,
         desk,
         passes,
         shares,
     } = opened;
+    let content = Content { replies, aliases };
     let status = serve_and_close(
-        rt, serving, replies, desk, passes, shares, reporting, output,
+        rt, serving, content, desk, passes, shares, reporting, output,
     )?;
     tell_status(alloc, status, output)
 }

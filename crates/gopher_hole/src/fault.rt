@@ -3,6 +3,7 @@
 ghost use Rattle.std.specs.Prelude.{◌≡◌};
 ghost use Rattle.gopher_hole.specs.Fault.{program_fault_code, details_of, tree_details};
 
+use crate::aliases::AliasFault;
 use gopher_catalogue::OpenFault;
 use gopher_crew::DeskFault;
 use gopher_item::NoMemory;
@@ -23,6 +24,12 @@ pub enum ProgramFault {
     /// 20 to 26, 30 to 34, 80 or 90: the settings or their folder have a fault.
     #[error("{0}")]
     Site(SiteFault),
+    /// 35 or 90: the file of aliases has a bad line.
+    #[error("{0}")]
+    Aliases(AliasFault),
+    /// 36: the file of aliases can't be read, or has over 1,048,576 bytes.
+    #[error("the file of aliases can't be read")]
+    AliasesUnreadable,
     /// 50, 51, 54 or 90: the crawl can't begin.
     #[error("{0}")]
     Open(OpenFault),
@@ -38,6 +45,9 @@ pub enum ProgramFault {
     /// 82: a server thread couldn't be started.
     #[error("a server thread couldn't be started")]
     NoThread,
+    /// 83: a strict check has a warning.
+    #[error("there is a warning")]
+    Warned,
     /// 90: out of memory.
     #[error("out of memory")]
     NoMemory,
@@ -67,22 +77,26 @@ impl ProgramFault {
             ProgramFault::Replay(fault) => fault.code(),
             ProgramFault::WriteFailed => 13,
             ProgramFault::Site(fault) => fault.code(),
+            ProgramFault::Aliases(fault) => fault.code(),
+            ProgramFault::AliasesUnreadable => 36,
             ProgramFault::Open(fault) => fault.code(),
             ProgramFault::Desk(fault) => fault.code(),
             ProgramFault::StrangeShare => 62,
             ProgramFault::ListenFailed => 81,
             ProgramFault::NoThread => 82,
+            ProgramFault::Warned => 83,
             ProgramFault::NoMemory => 90,
         }
     }
 
     /// Returns what its line says after its number: the key for 31 to 33, the file for 20 to 23 and
-    /// 25, the file and its line for 24, the seed for 50, the line for 70.
+    /// 25, the file and its line for 24, the seed for 50, the line for 35 and 70.
     pub fn details(self) -> (Detail, Detail)
         ensures { result ≡ details_of self }
     {
         match self {
-            ProgramFault::Replay(ReplayFault::BadScript(line)) => {
+            ProgramFault::Replay(ReplayFault::BadScript(line))
+            | ProgramFault::Aliases(AliasFault::BadLine(line)) => {
                 (Detail::Line(line), Detail::Nothing)
             }
             ProgramFault::Site(SiteFault::Tree(fault, _)) => tree_details(fault),
@@ -133,5 +147,15 @@ impl From<SiteFault> for ProgramFault {
 
     fn from(fault: SiteFault) -> ProgramFault {
         ProgramFault::Site(fault)
+    }
+}
+
+impl From<AliasFault> for ProgramFault {
+    ghost use Rattle.gopher_hole.specs.declared.fault.ProgramFault.TheVariants.{Aliases};
+
+    ghost from_gives = { λ aliases fault. fault ≡ Aliases aliases };
+
+    fn from(fault: AliasFault) -> ProgramFault {
+        ProgramFault::Aliases(fault)
     }
 }

@@ -6,15 +6,15 @@
 //! `TcpFetch` (fetching from other servers) and `replay` (replaying the script of a crawl). It
 //! hands on the types that these calls take and return, and those with which a pass is made.
 //!
-//! `answer` and `answer_kept` return the reply that `specs/Answer.antt` defines, and `fetch_over`
-//! fetches as `specs/Fetch.antt` says. The other contracts of this crate cover the program's status
-//! and what it writes. `gopher_serve` says how much of a reply a client receives, and `gopher_crew`
-//! what a crawl leaves.
+//! `answer`, `answer_kept` and `answer_aliased` return replies as `specs/Answer.antt` defines them,
+//! and `fetch_over` fetches as `specs/Fetch.antt` says. The other contracts of this crate cover the
+//! program's status and what it writes. `gopher_serve` says how much of a reply a client receives,
+//! and `gopher_crew` what a crawl leaves.
 //!
 //! Error 90 (`NoMemory`) means out of memory.
 #![tactic(auto)]
 
-mod address_check;
+mod aliases;
 mod announcing;
 mod arguments;
 mod checking;
@@ -30,6 +30,7 @@ mod progress;
 mod site;
 mod starting;
 
+pub use aliases::{AliasFault, Aliases};
 pub use crewing::System;
 pub use fault::{Detail, ProgramFault};
 pub use fetching::{TcpFetch, fetch_over};
@@ -43,4 +44,4 @@ pub use gopher_server::OpenLog;
 pub use gopher_text::{MAX_REPLY, Watched};
 pub use gopher_tree::{Trail, Tree, TreeFault};
 pub use program::run;
-pub use site::{Site, answer, answer_kept, serve_one};
+pub use site::{Site, answer, answer_aliased, answer_kept, serve_one};

@@ -1,25 +1,33 @@
-//! Opening a server: its settings, its folder and its desk.
+//! Opening a server: its settings, its aliases, its folder and its desk.
 
 ghost use Rattle.std.specs.Prelude.{◌≡◌, [], IfOk};
 ghost use mathlib.Core.List.{IsPrefix};
 ghost use Rattle.gopher_catalogue.specs.Step.{opened_record};
 ghost use Rattle.gopher_crew.specs.Desk.{IsBlankOf, AllHaveSeen, shares_at};
+ghost use Rattle.gopher_hole.specs.Aliases.{AreAliases, AreAliasesOf};
 ghost use Rattle.gopher_hole.specs.Ending.{AreSettings, opening_record};
 
+use crate::aliases::Aliases;
 use crate::fault::ProgramFault;
+use crate::progress::urls::ESCAPED;
 use gopher_catalogue::Catalogue;
 use gopher_crew::{Blank, Crew, Desk, Pass, Share};
 use gopher_item::{Home, Place};
-use gopher_scope::{Obstacle, Scope, Settings, SettingsFault, SiteFault};
+use gopher_scope::{Obstacle, Scope, Settings, SettingsFault, SettingsObstacle, SiteFault};
 use gopher_serve::Replies;
 use gopher_text::{ReplyFault, Watched, read_reply};
-use gopher_tree::Tree;
+use gopher_tree::{LeftOut, Trail, Tree, TreeFault};
+use percent_encoding::percent_encode;
 use std::alloc::Global;
 use std::fs::{self, Files};
+use std::io::Eprint;
 use std::sync::Wait;
 
 // The most bytes of a settings file.
 const MAX_SETTINGS: usize = 1_048_576;
+
+// The most bytes of a file of aliases.
+const MAX_ALIASES: usize = 1_048_576;
 
 /// A server with its desk, before it listens.
 #[derive(Drop)]
@@ -43,16 +51,16 @@ pub struct Opened<C: Crew, R: Wait + Drop> {
 /// - `Settings` (90): out of memory
 pub fn settings_text<R: Files>(rt: &R, alloc: Global, path: &str) -> Result<String, SiteFault> {
     let Ok(file) = fs::open(rt, path) else {
-        return Err(SiteFault::SettingsUnreadable);
+        return Err(SiteFault::SettingsUnreadable(SettingsObstacle::Other));
     };
     let bytes = match read_reply(alloc, &mut Watched::new(file), MAX_SETTINGS) {
         Ok(bytes) => bytes,
         Err(ReplyFault::NoMemory) => return Err(SiteFault::Settings(SettingsFault::NoMemory)),
-        Err(_) => return Err(SiteFault::SettingsUnreadable),
+        Err(_) => return Err(SiteFault::SettingsUnreadable(SettingsObstacle::Other)),
     };
     match String::from_utf8(bytes) {
         Ok(text) => Ok(text),
-        Err(_) => Err(SiteFault::SettingsUnreadable),
+        Err(_) => Err(SiteFault::SettingsUnreadable(SettingsObstacle::Other)),
     }
 }
 
@@ -72,16 +80,104 @@ pub fn read_settings<R: Files>(rt: &R, alloc: Global, path: &str) -> Result<Sett
     }
 }
 
-// Loads the folder, and makes its replies.
-fn open_replies<R: Files>(
+/// Reads the text of a file of aliases.
+///
+/// # Errors
+///
+/// - `AliasesUnreadable` (36): the file can't be read, or has over 1,048,576 bytes (`MAX_ALIASES`)
+/// - `NoMemory` (90)
+pub fn aliases_text<R: Files>(rt: &R, alloc: Global, path: &str) -> Result<Vec<u8>, ProgramFault> {
+    let Ok(file) = fs::open(rt, path) else {
+        return Err(ProgramFault::AliasesUnreadable);
+    };
+    match read_reply(alloc, &mut Watched::new(file), MAX_ALIASES) {
+        Ok(text) => Ok(text),
+        Err(ReplyFault::NoMemory) => Err(ProgramFault::NoMemory),
+        Err(_) => Err(ProgramFault::AliasesUnreadable),
+    }
+}
+
+// Reads the aliases of a file.
+fn aliases_in<R: Files>(rt: &R, alloc: Global, path: &str) -> Result<Aliases, ProgramFault>
+    ensures { IfOk result AreAliases }
+{
+    let text = aliases_text(rt, alloc, path)?;
+    let aliases = Aliases::read(alloc, &text)?;
+    Ok(aliases)
+}
+
+/// Reads the aliases of a file, if one is named.
+///
+/// # Errors
+///
+/// - `AliasesUnreadable` (36), `NoMemory` (90): as `aliases_text` fails
+/// - `Aliases` (35, 90): as `Aliases::read` fails
+pub fn read_aliases<R: Files>(
+    rt: &R,
+    alloc: Global,
+    path: Option<&str>,
+) -> Result<Aliases, ProgramFault>
+    ensures { IfOk result (AreAliasesOf path.entry) }
+{
+    match path {
+        Some(path) => aliases_in(rt, alloc, path),
+        None => Ok(Aliases::none(alloc)),
+    }
+}
+
+// Prints the line of a file or folder that is left out: the number of its fault and its path, with
+// bytes escaped as in URLs.
+fn tell_left_out<R: Eprint>(rt: &R, root: &str, left: &LeftOut) {
+    let code = left.fault.code();
+    let root = percent_encode(root.as_bytes(), ESCAPED);
+    let path = percent_encode(&left.path, ESCAPED);
+    let _ = if left.path.is_empty() {
+        eprintln!(rt; "hole: left out: {code} {root}")
+    } else {
+        eprintln!(rt; "hole: left out: {code} {root}/{path}")
+    };
+}
+
+// Whether a path is that of a menu file.
+fn is_menu(path: &[u8]) -> bool {
+    path == b".menu".as_slice() || path.ends_with(b"/.menu")
+}
+
+// Loads the folder. If `leave_out`, leaves out what can't be served, and prints it on the error
+// stream, also if loading fails. Leaves out nothing if it would have to leave out a menu file: its
+// folder would get a listing, which names what the menu may not name.
+fn load<R: Files + Eprint>(
+    rt: &R,
+    alloc: Global,
+    root: &str,
+    leave_out: bool,
+) -> Result<Tree, TreeFault> {
+    if !leave_out {
+        return Tree::load(rt, alloc, root);
+    }
+    let mut trail = Trail::new(alloc);
+    let mut left = Vec::new(alloc);
+    let loaded = Tree::load_leaving_out(rt, alloc, root, &mut trail, &mut left);
+    if left.iter().any(|each| is_menu(&each.path)) {
+        return Tree::load(rt, alloc, root);
+    }
+    for each in &left {
+        tell_left_out(rt, root, each);
+    }
+    loaded
+}
+
+// Loads the folder as `load` does, and makes its replies.
+fn open_replies<R: Files + Eprint>(
     rt: &R,
     alloc: Global,
     root: String,
     home: Home,
+    leave_out: bool,
 ) -> Result<Replies, ProgramFault>
     ensures { IfOk result (λ replies. replies.home ≡ home) }
 {
-    let tree = match Tree::load(rt, alloc, root.as_str()) {
+    let tree = match load(rt, alloc, root.as_str(), leave_out) {
         Ok(tree) => tree,
         Err(fault) => return Err(ProgramFault::Site(SiteFault::Tree(fault, Obstacle::Other))),
     };
@@ -132,18 +228,22 @@ fn open_desk<'r, C: Crew, R: Wait>(
 /// share for each worker. The desk is at the opening of the crawl, with the settings' scope, seeds,
 /// `places` and `tries`, and all of them have seen it.
 ///
+/// If `leave_out`, files and folders that can't be served are left out, and a line for each is
+/// printed on the error stream of `rt`.
+///
 /// # Errors
 ///
 /// The first of these, in this order:
 ///
-/// - `Site` (20 to 26, 90): as `Tree::load` fails
+/// - `Site` (20 to 26, 90): as `Tree::load` fails, or `Tree::load_leaving_out`
 /// - `Open` (50, 51, 54, 90): as `Catalogue::open` fails
 /// - `Desk` (60, 61, 90): as `Desk::open` fails
 /// - `NoMemory` (90)
-pub fn open<'r, C: Crew, R: Files + Wait>(
+pub fn open<'r, C: Crew, R: Files + Wait + Eprint>(
     rt: &'r R,
     alloc: Global,
     settings: Settings,
+    leave_out: bool,
     blank: Blank,
 ) -> Result<Opened<C, &'r R>, ProgramFault>
     requires blank { IsBlankOf C.name C.parts C.history blank }
@@ -163,7 +263,7 @@ pub fn open<'r, C: Crew, R: Files + Wait>(
         threads,
         tries,
     } = settings;
-    let replies = open_replies(rt, alloc, root, home)?;
+    let replies = open_replies(rt, alloc, root, home, leave_out)?;
     let catalogue = open_catalogue(alloc, scope, seeds, places, tries)?;
     let (desk, passes, shares) = open_desk(rt, alloc, catalogue, threads, workers, blank)?;
     Ok(Opened {

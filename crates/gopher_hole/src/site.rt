@@ -1,8 +1,9 @@
-//! A tree's replies and a pass, which answer request lines (`Site`).
+//! A tree's replies, aliases and a pass, which answer request lines (`Site`).
 //!
 //! `answer` and `answer_kept` return `reply_of` for the tree's files, the server's address, the
-//! line, and the hits of its search (`specs/Answer.antt`). `answer_kept` may return a search that
-//! goes on in steps; its bytes are decided when it begins. No socket appears here.
+//! line, and the hits of its search (`specs/Answer.antt`). `answer_aliased` returns `reply_with`,
+//! which first replaces an old selector by its alias. The last two may return a search that goes on
+//! in steps; its bytes are decided when it begins. No socket appears here.
 
 ghost use Rattle.std.specs.Prelude.{◌≡◌};
 
@@ -10,7 +11,8 @@ mod answering;
 mod searching;
 mod serving;
 
-pub use answering::{answer, answer_kept};
+use crate::aliases::Aliases;
+pub use answering::{answer, answer_aliased, answer_kept};
 use gopher_crew::{Crew, Pass};
 use gopher_item::NoMemory;
 use gopher_serve::{Answer, Answers, Replies};
@@ -18,10 +20,20 @@ pub use serving::serve_one;
 use std::alloc::Global;
 use std::marker::Model;
 
-/// A tree's replies and a pass. It answers as `answer_kept` does.
+/// What the sites of all server threads share.
+#[derive(Debug, Drop)]
+pub struct Content {
+    /// The replies of a tree.
+    pub replies: Replies,
+    /// Old selectors that go on working.
+    pub aliases: Aliases,
+}
+
+/// A tree's replies, aliases and a pass. It answers as `answer_aliased` does.
 #[derive(Drop)]
 pub struct Site<'a, C: Crew> {
     replies: &'a Replies,
+    aliases: &'a Aliases,
     pass: Pass<C>,
 }
 
@@ -30,15 +42,20 @@ impl<'a, C: Crew> Model for Site<'a, C> {
 
     ghost Value = { SiteData };
 
-    ghost view = { λ s. record { replies = s.replies.now; pass = s.pass } };
+    ghost view = { λ s. record
+        { replies = s.replies.now; aliases = s.aliases.now; pass = s.pass } };
 }
 
 impl<'a, C: Crew> Site<'a, C> {
-    /// Makes a site of replies, with the pass for its searches.
-    pub fn new(replies: &'a Replies, pass: Pass<C>) -> Site<'a, C>
-        ensures { result ≡ record { replies = replies.now; pass = pass } }
+    /// Makes a site of replies and aliases, with the pass for its searches.
+    pub fn new(replies: &'a Replies, aliases: &'a Aliases, pass: Pass<C>) -> Site<'a, C>
+        ensures { result ≡ record { replies = replies.now; aliases = aliases.now; pass = pass } }
     {
-        Site { replies, pass }
+        Site {
+            replies,
+            aliases,
+            pass,
+        }
     }
 
     /// Returns the pass, with what it has seen.
@@ -57,6 +74,6 @@ impl<'a, C: Crew> Answers<'a> for Site<'a, C> {
     ghost leads_to = { LeadsOn };
 
     fn answer(&mut self, alloc: Global, line: &[u8]) -> Result<Answer<'a>, NoMemory> {
-        answer_kept(alloc, self.replies, &mut self.pass, line)
+        answer_aliased(alloc, self.replies, self.aliases, &mut self.pass, line)
     }
 }

@@ -4,9 +4,8 @@ ghost use Rattle.std.specs.Prelude.{◌≡◌};
 ghost use Rattle.gopher_hole.specs.Ending.{EndAs, StartsAll, after_thread};
 
 use crate::crewing::System;
-use crate::site::Site;
+use crate::site::{Content, Site};
 use gopher_crew::{Crew, Pass};
-use gopher_serve::Replies;
 use gopher_server::{ThreadEnd, ThreadSetup, serve};
 use std::alloc::Global;
 use std::sync::Arc;
@@ -44,14 +43,15 @@ pub struct ThreadsEnd {
 fn start_one<C: Crew + Send + Sync + 'static, R: System>(
     rt: &R,
     alloc: Global,
-    replies: &Arc<Replies>,
+    content: &Arc<Content>,
     setup: ThreadSetup,
     pass: Pass<C>,
 ) -> Option<PromisedHandle<ThreadEnd, AnyEnd>> {
-    let replies = Arc::try_clone(replies).ok()?;
+    let content = Arc::try_clone(content).ok()?;
     let theirs = rt.clone().ok()?;
     let thread = thread::spawn_with(rt, AnyEnd, move || {
-        serve(&theirs, alloc, setup, Site::new(&replies, pass))
+        let site = Site::new(&content.replies, &content.aliases, pass);
+        serve(&theirs, alloc, setup, site)
     });
     thread.ok()
 }
@@ -61,7 +61,7 @@ fn start_one<C: Crew + Send + Sync + 'static, R: System>(
 pub fn start_threads<C: Crew + Send + Sync + 'static, R: System>(
     rt: &R,
     alloc: Global,
-    replies: &Arc<Replies>,
+    content: &Arc<Content>,
     setups: Vec<ThreadSetup>,
     passes: Vec<Pass<C>>,
     tells: bool,
@@ -73,7 +73,7 @@ pub fn start_threads<C: Crew + Send + Sync + 'static, R: System>(
     let mut threads = Vec::new(alloc);
     for pass in passes {
         let started = match setups.pop() {
-            Some(setup) => start_one(rt, alloc, replies, setup, pass),
+            Some(setup) => start_one(rt, alloc, content, setup, pass),
             None => None,
         };
         match started {

@@ -7,7 +7,7 @@ use Rattle.std.proofs.Math.ListN.{get_or-map}
 use Rattle.toml.specs.Data.{Data, Members, as_array, as_table}
 use Rattle.toml.specs.View.{view, items_of, items_view, members_view}
 use Rattle.toml.specs.declared.value.Value.{Value}
-use Rattle.gopher_scope.specs.Values.{elements, first_of, array_problem, element_problem, table_problem, values_read}
+use Rattle.gopher_scope.specs.Values.{elements, first_of, array_problem, array_spot, element_problem, first_spot, table_problem, values_read}
 use Rattle.gopher_scope.specs.Unknown.{table_names}
 use Rattle.gopher_scope.specs.declared.settings.tables.Element.{Element}
 use Rattle.gopher_scope.specs.declared.settings.row.Problem.TheVariants.{OutOfRange}
@@ -30,6 +30,10 @@ option_or-none (Some x) b none = absurd (cc)
 -- the fault of an array, by the values of its vector
 pub array_problem-view : (element : Element) (values : List Value) → array_problem element (Some (items_view values)) ≡ (if nat_le (length values) 256 then first_of (element_problem element) (map view values) else Some OutOfRange)
 array_problem-view element values = rw (elements-items_of (map view values), length-map)
+
+-- the spot of an array's first fault, by the values of its vector
+pub array_spot-view : (element : Element) (values : List Value) → array_spot element (Some (items_view values)) ≡ (if nat_le (length values) 256 then first_spot element (map view values) else None)
+array_spot-view element values = rw (elements-items_of (map view values), length-map)
 
 -- if a test gives no result for the elements, it gives none at any index
 pub first_of-none : {A B : Type 0} (answer : A → Option B) (xs : List A) (i : ℕ) (x : A) → first_of answer xs ≡ None → i < length xs → answer (get_or xs i x) ≡ None

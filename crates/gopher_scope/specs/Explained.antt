@@ -9,6 +9,8 @@ use Rattle.gopher_tree.specs.declared.fault.TreeFault.{TreeFault}
 use Rattle.gopher_tree.specs.declared.fault.TreeFault.TheVariants as tree_fault
 use Rattle.gopher_scope.specs.declared.report.obstacle.Obstacle.{Obstacle}
 use Rattle.gopher_scope.specs.declared.report.obstacle.Obstacle.TheVariants as obstacle
+use Rattle.gopher_scope.specs.declared.report.settings_obstacle.SettingsObstacle.{SettingsObstacle}
+use Rattle.gopher_scope.specs.declared.report.settings_obstacle.SettingsObstacle.TheVariants as unread
 use Rattle.gopher_scope.specs.declared.fault.SiteFault.{SiteFault}
 use Rattle.gopher_scope.specs.declared.fault.SiteFault.TheVariants as fault
 
@@ -39,6 +41,22 @@ obstacle_explained (obstacle.LargeSite size) =
 obstacle_explained (obstacle.ManyNodes size) =
     because (codes "there are over 4096 files and folders up to this one, with the root")
     (codes "serve fewer files, or remove a symbolic link that points to a folder above it")
+
+abbrev pub unread_explained : SettingsObstacle → List ℕ × List ℕ
+unread_explained unread.Missing = because (codes "no file exists at this path") (codes "correct the path")
+unread_explained unread.Denied =
+    because (codes "permission to read this is missing")
+    (codes "give the server's user permission to read it, and to enter the folders above it")
+unread_explained unread.Folder =
+    because (codes "this is a folder") (codes "give the path of the settings file in it")
+unread_explained unread.Loop = because (codes "symbolic links form a loop") (codes "remove the link")
+unread_explained unread.TooLarge =
+    because (codes "this file has over 1048576 bytes")
+    (codes "correct the path, or make it smaller")
+unread_explained unread.NotUtf8 = because (codes "this file isn't UTF-8") (codes "save it as UTF-8")
+unread_explained unread.Other =
+    because (codes "the settings can't be read, have over 1048576 bytes, or aren't UTF-8")
+    (codes "correct the path, the permissions or the text")
 
 abbrev pub tree_explained : TreeFault → Obstacle → List ℕ × List ℕ
 tree_explained (tree_fault.BadName file) how =
@@ -102,8 +120,6 @@ explained (fault.Tree why how) = tree_explained why how
 explained (fault.SeedOutOfScope seed) =
     because (codes "no allow rule covers this seed, or a deny rule does")
     (codes "add an allow rule with its host, its port and a prefix of its selector, change the deny rule, or remove the seed")
-explained fault.SettingsUnreadable =
-    because (codes "the settings can't be read, have over 1048576 bytes, or aren't UTF-8")
-    (codes "correct the path, the permissions or the text")
+explained (fault.SettingsUnreadable how) = unread_explained how
 explained fault.KeyTwice =
     because (codes "this line repeats an earlier key or table") (codes "remove one of the two lines")

@@ -7,6 +7,7 @@ use Rattle.gopher_scope.specs.declared.settings.key.Key.TheVariants as key
 use Rattle.gopher_tree.specs.Fault.{tree_fault_code}
 use Rattle.gopher_tree.specs.declared.fault.TreeFault.TheVariants as tree_fault
 use Rattle.gopher_scope.specs.declared.report.obstacle.Obstacle.TheVariants as obstacle
+use Rattle.gopher_scope.specs.declared.report.settings_obstacle.SettingsObstacle.TheVariants as unread
 use Rattle.gopher_scope.specs.declared.fault.SiteFault.{SiteFault}
 use Rattle.gopher_scope.specs.declared.fault.SiteFault.TheVariants as fault
 
@@ -22,5 +23,5 @@ abbrev pub site_fault_code : SiteFault → ℕ
 site_fault_code (fault.Settings why) = settings_fault_code why
 site_fault_code (fault.Tree why how) = tree_fault_code why
 site_fault_code (fault.SeedOutOfScope seed) = 50
-site_fault_code fault.SettingsUnreadable = 80
+site_fault_code (fault.SettingsUnreadable how) = 80
 site_fault_code fault.KeyTwice = settings_fault_code settings_fault.NotToml

@@ -6,6 +6,8 @@ use Rattle.gopher_item.specs.Place.{PlaceData, HomeData}
 use Rattle.gopher_item.specs.Rule.{RuleData}
 use Rattle.gopher_tree.specs.Files.{File, is_missing, total_bytes, menu_files}
 use Rattle.gopher_tree.specs.Path.{is_menu_path}
+use Rattle.gopher_tree.specs.Fault.{tree_fault_code}
+use Rattle.gopher_tree.specs.declared.load.left_out.LeftOut.{LeftOut}
 use Rattle.gopher_tree.specs.declared.load.trail.Trail.{Trail}
 use Rattle.std.specs.Fmt.{decimal}
 use Rattle.gopher_item.specs.Special.{is_control}
@@ -55,6 +57,9 @@ server_words host port = shown host ++ count_words (codes " ") port
 abbrev pub place_rest : List ℕ → ℕ → List ℕ → List ℕ
 place_rest host port selector = server_words host port ++ words_line (codes " ") selector
 
+abbrev pub place_words : List ℕ → List ℕ → List ℕ
+place_words root path = shown root ++ 47 ∷ shown path
+
 -- ---- a site
 
 -- the server's address, the root as the settings spell it, and the files
@@ -66,6 +71,13 @@ pub record CheckedSite : Type 0 where
 abbrev pub address_lines : HomeData → List ℕ → List ℕ
 address_lines home root =
     codes "address: " ++ server_words home.host home.port ++ words_line (codes "\nroot: ") root
+
+-- the line of a file or folder below the root that was left out: the number of its fault, and its
+-- path
+abbrev pub left_out_line : List ℕ → LeftOut → List ℕ
+left_out_line root left =
+    count_words (codes "left out: ") (tree_fault_code left.fault)
+    ++ 32 ∷ place_words root left.path.items ++ 10 ∷ []
 
 -- the numbers of files, menu files and bytes
 abbrev pub size_lines : List File → List ℕ
@@ -106,9 +118,6 @@ is_dead site line =
     is_asked line.kind && is_own site.home line.server
     && not (starts_with nat_eq line.selector (codes "URL:"))
     && not (leads_to_search line.selector) && not (is_some (named site.files line.selector))
-
-abbrev pub place_words : List ℕ → List ℕ → List ℕ
-place_words root path = shown root ++ 47 ∷ shown path
 
 abbrev pub dead_line : List ℕ → List ℕ → ℕ → List ℕ → List ℕ
 dead_line root path number selector =

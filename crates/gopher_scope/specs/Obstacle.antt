@@ -9,6 +9,8 @@ use Rattle.gopher_tree.specs.declared.fault.TreeFault.TheVariants as tree_fault
 use Rattle.gopher_tree.specs.declared.load.trail.Trail.{Trail}
 use Rattle.gopher_scope.specs.declared.report.obstacle.Obstacle.{Obstacle}
 use Rattle.gopher_scope.specs.declared.report.obstacle.Obstacle.TheVariants as obstacle
+use Rattle.gopher_scope.specs.declared.report.settings_obstacle.SettingsObstacle.{SettingsObstacle}
+use Rattle.gopher_scope.specs.declared.report.settings_obstacle.SettingsObstacle.TheVariants as unread
 use Rattle.gopher_scope.specs.declared.fault.SiteFault.TheVariants as fault
 
 -- the sum, unless it is over the largest number of 64 bits
@@ -31,6 +33,15 @@ obstacle_of kind.NotFound = obstacle.Missing
 obstacle_of kind.NotADirectory = obstacle.NotFolder
 obstacle_of kind.FilesystemLoop = obstacle.Loop
 obstacle_of _ = obstacle.Other
+
+-- the reason why a settings file can't be read, by the kind of the system's error
+abbrev pub settings_obstacle_of : ErrorKind → SettingsObstacle
+settings_obstacle_of kind.PermissionDenied = unread.Denied
+settings_obstacle_of kind.NotFound = unread.Missing
+settings_obstacle_of kind.NotADirectory = unread.Missing
+settings_obstacle_of kind.IsADirectory = unread.Folder
+settings_obstacle_of kind.FilesystemLoop = unread.Loop
+settings_obstacle_of _ = unread.Other
 
 -- the reason why a walk stops at the end of its trail, as far as values decide it
 abbrev pub IsReason : TreeFault → Trail → Obstacle → Type 0

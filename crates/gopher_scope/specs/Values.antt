@@ -9,8 +9,10 @@ use Rattle.gopher_scope.specs.declared.settings.row.Form.TheVariants.{Integer, T
 use Rattle.gopher_scope.specs.declared.settings.tables.Element.{Element}
 use Rattle.gopher_scope.specs.declared.settings.tables.Element.TheVariants as element
 use Rattle.gopher_scope.specs.declared.settings.row.TextKind.{TextKind}
-use Rattle.std.specs.Option.{option_or, option_map_or}
+use Rattle.std.specs.List.{enumerate_from}
+use Rattle.std.specs.Option.{option_or, option_map, option_map_or}
 use Rattle.toml.specs.Data.{Data, Items, no_items, item, Members, get_member, as_integer, as_str, as_array, as_table}
+use Rattle.gopher_scope.specs.declared.settings.tables.Spot.{Spot}
 use Rattle.gopher_scope.specs.declared.settings.row.Problem.{Problem}
 use Rattle.gopher_scope.specs.declared.settings.row.Problem.TheVariants.{Missing, WrongKind, OutOfRange}
 use Rattle.gopher_scope.specs.Rows.{RowData, key_row, element_fields, field_row, absent_text, is_in_range}
@@ -73,6 +75,39 @@ array_problem element (Some items) =
 abbrev pub form_problem : Form → Option Data → Option Problem
 form_problem (Tables element) (Some value) = array_problem element (as_array value)
 form_problem form value = scalar_problem form value
+
+-- the key, if its value in a table has a fault
+abbrev pub faulty : Members → Field → Option Field
+faulty table field = option_map (λ problem. field) (field_problem table field)
+
+-- the first key of a table with a fault, in order; none if the element isn't a table
+abbrev pub faulty_field : Element → Option Members → Option Field
+faulty_field element None = None
+faulty_field element (Some table) = first_of (faulty table) (element_fields element)
+
+-- where the fault of an element with its index is, if it has one
+abbrev pub spot_at : Element → ℕ × Data → Option Spot
+spot_at element (index, value) =
+    option_map (λ problem. record { index = index; field = faulty_field element (as_table value) })
+    (element_problem element value)
+
+-- where the fault of the first element with a fault is, by its index from 0
+abbrev pub first_spot : Element → List Data → Option Spot
+first_spot element values = first_of (spot_at element) (enumerate_from 0 values)
+
+-- where in an array of at most 256 tables its first fault is; nowhere if the whole array has it
+abbrev pub array_spot : Element → Option Items → Option Spot
+array_spot element None = None
+array_spot element (Some items) =
+    if nat_le (length (elements items)) 256 then first_spot element (elements items) else None
+
+-- where in a key's value its fault is, if an element of an array has it
+abbrev pub form_spot : Form → Option Data → Option Spot
+form_spot (Tables element) (Some value) = array_spot element (as_array value)
+form_spot form value = None
+
+abbrev pub key_spot : Members → Key → Option Spot
+key_spot table key = form_spot (key_row key).1 (key_value table key)
 
 -- the number of an integer; 0 for a negative one
 abbrev pub number_read : Option ℤ → ℕ

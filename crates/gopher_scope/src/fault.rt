@@ -5,7 +5,7 @@ ghost use Rattle.std.specs.Prelude.{◌≡◌};
 ghost use Rattle.gopher_scope.specs.Fault.{settings_fault_code, site_fault_code};
 ghost use Rattle.gopher_scope.specs.Explained.{explained, range_remedy, settings_explained, tree_explained};
 
-use crate::report::Obstacle;
+use crate::report::{Obstacle, SettingsObstacle};
 use crate::settings::Key;
 use gopher_item::NoMemory;
 use gopher_tree::TreeFault;
@@ -76,9 +76,10 @@ pub enum SiteFault {
     /// 50: the scope doesn't allow the seed at this index.
     #[error("seed {0} is out of scope")]
     SeedOutOfScope(usize),
-    /// 80: the settings file can't be read, has over 1,048,576 bytes, or isn't UTF-8.
+    /// 80: the settings file can't be read, has over 1,048,576 bytes, or isn't UTF-8; with the
+    /// reason.
     #[error("the settings can't be read")]
-    SettingsUnreadable,
+    SettingsUnreadable(SettingsObstacle),
     /// 30: a line of the settings repeats an earlier key or table.
     #[error("a line repeats an earlier key or table")]
     KeyTwice,
@@ -170,7 +171,7 @@ impl SiteFault {
             SiteFault::Settings(fault) => fault.code(),
             SiteFault::Tree(fault, _) => fault.code(),
             SiteFault::SeedOutOfScope(_) => 50,
-            SiteFault::SettingsUnreadable => 80,
+            SiteFault::SettingsUnreadable(_) => 80,
             SiteFault::KeyTwice => SettingsFault::NotToml.code(),
         }
     }
@@ -186,10 +187,7 @@ impl SiteFault {
                 "no allow rule covers this seed, or a deny rule does",
                 "add an allow rule with its host, its port and a prefix of its selector, change the deny rule, or remove the seed",
             ),
-            SiteFault::SettingsUnreadable => (
-                "the settings can't be read, have over 1048576 bytes, or aren't UTF-8",
-                "correct the path, the permissions or the text",
-            ),
+            SiteFault::SettingsUnreadable(obstacle) => obstacle.explain(),
             SiteFault::KeyTwice => (
                 "this line repeats an earlier key or table",
                 "remove one of the two lines",

@@ -21,5 +21,8 @@ mod settings;
 
 pub use fault::{SettingsFault, SiteFault};
 pub use gopher_item::{MAX_PLACES, MAX_TRIES, Rule, Scope};
-pub use report::{Obstacle, Report, check, unreadable};
+pub use report::{
+    Obstacle, Report, SettingsObstacle, SoundSite, check, is_asked, is_own, push_shown, push_words,
+    unreadable,
+};
 pub use settings::{Key, Settings};

@@ -20,6 +20,7 @@ use gopher_item::{Home, ItemFault, NoMemory, Place, Scope};
 use items::{rules, seeds};
 pub use key::Key;
 use std::alloc::Global;
+pub(crate) use tables::{Field, Spot};
 use toml::Table;
 pub(crate) use unknown::{UnknownKey, unknown_keys};
 

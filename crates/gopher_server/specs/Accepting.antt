@@ -1,5 +1,5 @@
 -- Whether a server thread accepts connections, and what a failed accept means.
-use Rattle.std.specs.Prelude.{ℕ, ◌+◌, ◌^◌, ◌-◌, ◌==◌, Bool, true, false, not, ◌&&◌, ◌||◌, nat_le, min, if◌then◌else◌, Option, None, Some}
+use Rattle.std.specs.Prelude.{ℕ, ◌+◌, ◌^◌, ◌-◌, ◌==◌, Bool, true, false, not, ◌&&◌, ◌||◌, nat_le, nat_lt, min, if◌then◌else◌, Option, None, Some}
 use Rattle.gopher_server.specs.declared.decisions.accepting.Accepting.{Accepting}
 use Rattle.gopher_server.specs.declared.decisions.accepting.Accepting.TheVariants.{Watches, Leaves, Pauses, Ended}
 use Rattle.gopher_server.specs.declared.decisions.accepting.AcceptEvent.{AcceptEvent}
@@ -27,9 +27,10 @@ listeners_at token listeners =
     then Some (record { start = token - first_listener; end = token - first_listener + 1 })
     else None)
 
--- after the end of its accepting, a thread accepts nothing more; if descriptors or memory are short
--- it pauses for 100 ms; at the end of a round it leaves new connections to other threads while it
--- holds many more than its share, except that a pause isn't cut short
+-- after the end of its accepting, a thread accepts nothing more; if descriptors or memory are
+-- short, or many connections in a row are lost, it pauses for 100 ms; at the end of a round it
+-- leaves new connections to other threads while it holds many more than its share, except that a
+-- pause isn't cut short
 abbrev pub after_event : Accepting → AcceptEvent → ℕ → Accepting
 after_event Ended event now = Ended
 after_event state Ends now = Ended
@@ -64,17 +65,22 @@ pause_end state = None
 abbrev pub is_short : ℕ → Bool
 is_short error = (((error == 12) || (error == 23)) || (error == 24)) || (error == 105)
 
--- EPERM, EINTR, ENONET, EPROTO, ENOPROTOOPT, EOPNOTSUPP, ENETDOWN, ENETUNREACH, ECONNABORTED,
--- EHOSTDOWN, EHOSTUNREACH
+-- 0, EPERM, EINTR, ENONET, EPROTO, ENOPROTOOPT, ENETDOWN, ENETUNREACH, ECONNABORTED, EHOSTDOWN,
+-- EHOSTUNREACH
 abbrev pub is_lost : ℕ → Bool
 is_lost error =
-    ((((((((((error == 1) || (error == 4)) || (error == 64)) || (error == 71)) || (error == 92))
-    || (error == 95)) || (error == 100)) || (error == 101)) || (error == 103)) || (error == 112))
+    ((((((((((error == 0) || (error == 1)) || (error == 4)) || (error == 64)) || (error == 71))
+    || (error == 92)) || (error == 100)) || (error == 101)) || (error == 103)) || (error == 112))
     || (error == 113)
 
+-- what a connection that is lost means after `lost` others in a row: the 64th is one too many
+abbrev pub loss_after : ℕ → AcceptFailure
+loss_after lost = if nat_lt lost 63 then failure.IsLost else failure.AreLost
+
 -- what an error of accept(2) means, by its number on Linux, after an accept that failed because
--- descriptors or memory were short, or not
-abbrev pub failure_of : ℕ → Bool → AcceptFailure
-failure_of error was_short =
+-- descriptors or memory were short, or not, and after `lost` accepts in a row whose connections
+-- were lost
+abbrev pub failure_of : ℕ → Bool → ℕ → AcceptFailure
+failure_of error was_short lost =
     if is_short error then (if was_short then failure.StaysShort else failure.IsShort)
-    else (if is_lost error then failure.IsLost else failure.IsBroken)
+    else (if is_lost error then loss_after lost else failure.IsBroken)

@@ -6,3 +6,4 @@ pub mod Places
 pub mod Rests
 pub mod Held
 pub mod Waits
+pub mod Unread

@@ -69,6 +69,8 @@ pub(crate) struct Acceptor {
     /// How many reports in a row it took for one connection each; `MAX_SINGLE` while it accepts
     /// until none waits.
     pub(crate) single: u32,
+    /// How many accepts in a row lost their connections.
+    pub(crate) lost: u32,
     /// What it shares with those of other threads.
     pub(crate) shared: Arc<ServerShared>,
 }
@@ -81,6 +83,7 @@ impl Acceptor {
             listeners: Some(listeners),
             state: Accepting::Watches,
             single: 0,
+            lost: 0,
             shared,
         }
     }

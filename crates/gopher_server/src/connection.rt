@@ -1,17 +1,21 @@
 //! One connection with a client.
 
-ghost use Rattle.std.specs.Prelude.{◌≡◌, ◌&&◌, ◌||◌, length, nat_lt, not, true};
+ghost use Rattle.std.specs.Prelude.{◌≡◌, ◌≢◌, ◌&&◌, ◌||◌, false, length, nat_lt, not, true};
+ghost use Rattle.std.specs.Option.{is_some};
+ghost use Rattle.gopher_serve.specs.Talk.{asked_of};
 ghost use Rattle.gopher_serve.specs.declared.advancing.Progress.TheVariants.{Done, Paused};
 ghost use Rattle.gopher_server.specs.RequestLine.{search_of};
+ghost use Rattle.gopher_server.specs.Unread.{CutsVisibly, IsHandedOver, IsWhole, SaysAll};
 
 use crate::logging::{Accepted, ThreadLog, search_of};
+use crate::request_reader::RequestReader;
 use crate::send_buffer::ReplyWriter;
 use gopher_serve::{Answers, Conversation, Progress, ServeFault, advance, converse};
 use gopher_text::Watched;
 use mio::net::TcpStream;
 use mio::{Interest, Registry, Token};
 use std::alloc::Global;
-use std::io::{ErrorKind, Read};
+use std::io::{self, ErrorKind, Read};
 use std::mem::replace;
 use std::net::Shutdown;
 use std::sync::Wait;
@@ -30,7 +34,7 @@ const LONG_SEARCH: usize = 128;
 // The most steps up to the end of a line: a line has at most 1,026 bytes.
 const MAX_LISTENS: u32 = 2_048;
 
-// The most reads of a lingering connection before other events are handled.
+// The most reads of a connection before other events are handled.
 const MAX_READS: u32 = 16;
 
 /// What a thread answers its clients with.
@@ -49,6 +53,10 @@ pub(crate) struct Connection<'a> {
     stream: TcpStream,
     pub(crate) conversation: Conversation<'a>,
     accepted: Option<Accepted>,
+    // How many bytes of its request were read and are still in the system's queue. While there are
+    // some, it is reset if it is closed or the process ends. They are taken once the system has the
+    // whole reply.
+    unread: usize,
     // Whether its reply is sent, and it reads what the client still sends until a deadline.
     lingers: bool,
     // Whether it has that deadline.
@@ -74,6 +82,44 @@ fn lingers_after(has_ended: bool, sent: usize) -> bool
     has_ended && sent > LINGER_ABOVE
 }
 
+// Takes the steps of a conversation up to the end of its line. The progress is then `Paused`.
+fn hear<'a, A: Answers<'a> + Drop>(
+    conversation: &mut Conversation<'a>,
+    answering: &mut Answering<A>,
+    reader: &mut Watched<RequestReader<'_>>,
+) -> Progress
+    ensures asked { result ≡ Paused → is_some (asked_of conversation.new) ≡ true }
+    ensures ends { result ≢ Done }
+{
+    for _step in 0..MAX_LISTENS {
+        if conversation.asked_line().is_some() {
+            return Progress::Paused;
+        }
+        let progress = advance(
+            answering.alloc,
+            conversation,
+            &mut answering.answers,
+            reader,
+            &mut Watched::new(io::sink()),
+            &mut answering.buffer,
+        );
+        if progress != Progress::Paused {
+            return progress;
+        }
+    }
+    Progress::Failed(ServeFault::TooManyTurns)
+}
+
+// Takes what was read of a request out of the system's queue.
+fn take_request(mut stream: &TcpStream, buffer: &mut [u8; BUFFER_BYTES]) {
+    for _read in 0..MAX_READS {
+        match stream.read(buffer) {
+            Err(error) if error.kind() == ErrorKind::Interrupted => {}
+            _ => return,
+        }
+    }
+}
+
 impl<'a> Connection<'a> {
     /// Makes a connection that has read nothing yet. `accepted` is there if its request is logged.
     pub(crate) fn new(
@@ -85,6 +131,7 @@ impl<'a> Connection<'a> {
             stream,
             conversation: Conversation::new(alloc),
             accepted,
+            unread: 0,
             lingers: false,
             has_deadline: false,
             reported: None,
@@ -92,13 +139,13 @@ impl<'a> Connection<'a> {
         }
     }
 
-    // What it waits for. It waits for room to write only while it has a reply to send, because a
-    // report of room that it doesn't need costs a round.
+    // What it waits for. It waits for room to write only while it has a reply to send, and then for
+    // nothing else, because a report that it doesn't need costs a round.
     fn interest(&self) -> Interest {
         if self.lingers || self.conversation.asked_line().is_none() {
             Interest::READABLE
         } else {
-            Interest::READABLE | Interest::WRITABLE
+            Interest::WRITABLE
         }
     }
 
@@ -130,48 +177,43 @@ impl<'a> Connection<'a> {
         answering: &mut Answering<A>,
         may_enlarge: bool,
         is_held_back: bool,
-    ) -> Progress {
+    ) -> Progress
+        ensures whole { self.old.lingers ≡ false → IsHandedOver result → IsWhole self.new }
+        ensures cut { CutsVisibly self.old self.new result }
+    {
         if self.lingers {
             return self.read_on(&mut answering.buffer);
         }
         let mut progress = Progress::Paused;
-        if is_held_back && self.conversation.asked_line().is_none() {
-            progress = self.listen(answering);
+        if self.conversation.asked_line().is_none() {
+            progress = self.listen(answering, is_held_back);
         }
         if progress == Progress::Paused {
             progress = self.talk(answering, may_enlarge);
         }
         answering.is_short |= progress == Progress::Failed(ServeFault::NoMemory);
         match progress {
-            Progress::Done => self.end_reply(),
+            Progress::Done => self.end_reply(&mut answering.buffer),
             _ => progress,
         }
     }
 
-    // Takes the steps up to the end of its line. The progress is `Works` if the line has a long
-    // search string, and `Paused` if it has another one.
-    fn listen<A: Answers<'a> + Drop>(&mut self, answering: &mut Answering<A>) -> Progress {
-        for _step in 0..MAX_LISTENS {
-            if let Some(asked) = self.conversation.asked_line() {
-                return if has_long_search(asked) {
-                    Progress::Works
-                } else {
-                    Progress::Paused
-                };
-            }
-            let progress = advance(
-                answering.alloc,
-                &mut self.conversation,
-                &mut answering.answers,
-                &mut Watched::new(&self.stream),
-                &mut Watched::new(ReplyWriter::new(&self.stream, false)),
-                &mut answering.buffer,
-            );
-            if progress != Progress::Paused {
-                return progress;
-            }
+    // Reads its line to the end; the progress is then `Paused`. If it is held back, the progress is
+    // `Works` if the line has a long search string.
+    fn listen<A: Answers<'a> + Drop>(
+        &mut self,
+        answering: &mut Answering<A>,
+        is_held_back: bool,
+    ) -> Progress
+        ensures ends { result ≢ Done }
+    {
+        let mut reader = Watched::new(RequestReader::new(&self.stream, self.unread));
+        let progress = hear(&mut self.conversation, answering, &mut reader);
+        self.unread = reader.into_inner().unread;
+        match self.conversation.asked_line() {
+            Some(asked) if is_held_back && has_long_search(asked) => Progress::Works,
+            _ => progress,
         }
-        Progress::Paused
     }
 
     /// Adds its request to the log, unless that was done or no line was asked.
@@ -187,19 +229,24 @@ impl<'a> Connection<'a> {
         }
     }
 
-    // Converses while the client is ready and no search makes the reply.
+    // Sends its reply while the client is ready and no search makes the reply. It reads nothing.
     fn talk<A: Answers<'a> + Drop>(
         &mut self,
         answering: &mut Answering<A>,
         may_enlarge: bool,
-    ) -> Progress {
+    ) -> Progress
+        ensures unread { self.new.unread ≡ self.old.unread }
+        ensures lingers { self.new.lingers ≡ self.old.lingers }
+        ensures ends { result ≢ Paused }
+        ensures whole { result ≡ Done → SaysAll self.new.conversation }
+    {
         let reply_writer = ReplyWriter::new(&self.stream, may_enlarge && !self.is_large);
         let mut writer = Watched::new(reply_writer);
         let progress = converse(
             answering.alloc,
             &mut self.conversation,
             &mut answering.answers,
-            &mut Watched::new(&self.stream),
+            &mut Watched::new(io::empty()),
             &mut writer,
             &mut answering.buffer,
         );
@@ -207,13 +254,19 @@ impl<'a> Connection<'a> {
         progress
     }
 
-    // Ends the sending side: the client sees the end of the reply. It may have sent more than its
+    // Takes its request out of the system's queue, now that the system has the whole reply, and
+    // ends the sending side: the client sees the end of the reply. It may have sent more than its
     // line, and a connection that is closed over unread bytes is reset, which takes from the client
     // what it hasn't read of the reply. So after a large reply it lingers.
-    fn end_reply(&mut self) -> Progress
+    fn end_reply(&mut self, buffer: &mut [u8; BUFFER_BYTES]) -> Progress
+        ensures unread { self.new.unread ≡ 0 }
+        ensures handed { IsHandedOver result }
+        ensures conversation { self.new.conversation ≡ self.old.conversation }
         ensures lingers { result ≡ Paused → self.new.lingers ≡ true }
         ensures ends { result ≡ Done → self.new.lingers ≡ self.old.lingers }
     {
+        take_request(&self.stream, buffer);
+        self.unread = 0;
         let ended = self.stream.shutdown(Shutdown::Write);
         if lingers_after(ended.is_ok(), self.conversation.sent_len()) {
             self.lingers = true;

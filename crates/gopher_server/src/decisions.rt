@@ -1,6 +1,7 @@
 //! What a server thread decides: which connection was idle longest, which are past their deadline,
 //! whose search is next, how long it may wait for events, when it accepts and when it wakes the
-//! other threads, how many connections the server may hold, and how many it still accepts.
+//! other threads, how many connections the server may hold, how many it still accepts, and how much
+//! of a request the system still holds.
 //!
 //! No socket, thread or clock appears here: a connection is whatever the server keeps, and times
 //! are numbers. The server uses these contracts: a key returns the connection that was taken in at
@@ -15,6 +16,7 @@
 mod accepting;
 mod held;
 mod places;
+mod unread;
 mod waits;
 
 pub use accepting::{
@@ -23,4 +25,5 @@ pub use accepting::{
 };
 pub use held::Held;
 pub use places::{Places, max_places};
+pub use unread::unread_after;
 pub use waits::longest_wait;

@@ -79,6 +79,7 @@ impl<'a, A: Answers<'a> + Drop> Server<'a, A> {
         for _accepted in 0..MAX_ACCEPTS {
             match self.acceptor.next_client(index) {
                 Some(Ok((stream, address))) => {
+                    self.acceptor.lost = 0;
                     self.welcome(rt, stream, address);
                     self.acceptor.take_quota(&self.poll);
                     if self.acceptor.single < MAX_SINGLE {
@@ -88,6 +89,7 @@ impl<'a, A: Answers<'a> + Drop> Server<'a, A> {
                 }
                 Some(Err(error)) if error.kind() == ErrorKind::WouldBlock => {
                     self.acceptor.single = 0;
+                    self.acceptor.lost = 0;
                     return;
                 }
                 Some(Err(error)) => was_short = self.meet_failure(rt, error, was_short),
@@ -97,8 +99,9 @@ impl<'a, A: Answers<'a> + Drop> Server<'a, A> {
     }
 
     // Handles the error of a failed accept. If descriptors or memory are short, makes room, or else
-    // accepts nothing for a time and leaves the connection to the other threads. Returns whether
-    // they are; `was_short` says whether they were at the accept before.
+    // accepts nothing for a time and leaves the connection to the other threads, as it does if many
+    // connections in a row are lost. Returns whether it did one of both; `was_short` says whether
+    // the accept before did.
     fn meet_failure<R: Wait + Clock + Eprint>(
         &mut self,
         rt: &R,
@@ -106,15 +109,18 @@ impl<'a, A: Answers<'a> + Drop> Server<'a, A> {
         was_short: bool,
     ) -> bool {
         let number = error.raw_os_error().unwrap_or(0).unsigned_abs();
-        match failure_of(number, was_short) {
-            AcceptFailure::IsLost => return false,
+        match failure_of(number, was_short, self.acceptor.lost) {
+            AcceptFailure::IsLost => {
+                self.acceptor.lost = self.acceptor.lost.saturating_add(1);
+                return false;
+            }
             AcceptFailure::IsShort => {
                 if let Some(key) = self.connections.idle_longest() {
                     self.close(rt, key);
                     return true;
                 }
             }
-            AcceptFailure::StaysShort => {}
+            AcceptFailure::StaysShort | AcceptFailure::AreLost => {}
             AcceptFailure::IsBroken => {
                 let what = "hole: connections can't be accepted: ";
                 tell(rt, what, error, self.tells);
@@ -123,6 +129,7 @@ impl<'a, A: Answers<'a> + Drop> Server<'a, A> {
             }
         }
         let now = self.clock.now(rt);
+        self.acceptor.lost = 0;
         self.acceptor.meet(&self.poll, AcceptEvent::IsShort, now);
         true
     }

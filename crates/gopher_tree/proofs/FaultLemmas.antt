@@ -12,7 +12,7 @@ pub option_or-none : (a b : Option TreeFault) → option_or a b ≡ None → (a 
 option_or-none None b h = (refl, h)
 option_or-none (Some fault) b h = absurd cc
 
-cond-none : (t : Bool) (fault : TreeFault) (rest : Option TreeFault) → cond t (Some fault) rest ≡ None → (t ≡ false) × (rest ≡ None)
+pub cond-none : (t : Bool) (fault : TreeFault) (rest : Option TreeFault) → cond t (Some fault) rest ≡ None → (t ≡ false) × (rest ≡ None)
 cond-none true fault rest h = absurd cc
 cond-none false fault rest h = (refl, h)
 

@@ -8,5 +8,6 @@ pub mod EntryLemmas
 pub mod PathsLemmas
 pub mod ReplyLemmas
 pub mod LoadLemmas
+pub mod LeavingLemmas
 pub mod ListingLemmas
 pub mod LawLemmas

@@ -1,13 +1,13 @@
 -- The files that a walk through a folder lists, step by step, and why it stops.
-use Rattle.std.proofs.Common.{◌≡◌, ℕ, ◌≤◌, List, [], ◌∷◌, ◌++◌, length, take, Option, None, Some, Result, Ok, Err, IfSome, IfOk, IfErr, refl, sym, ap, ◌∙◌, subst, inl, inr}
+use Rattle.std.proofs.Common.{◌≡◌, ℕ, ◌≤◌, List, [], ◌∷◌, ◌++◌, length, take, Option, None, Some, Result, Ok, Err, IfSome, refl, sym, ap, ◌∙◌, subst, inl, inr}
 use Rattle.std.proofs.lemmas.List.{append_assoc, append-nil}
 use Rattle.std.specs.Option.{option_map}
 use Rattle.std.specs.declared.io.traits.Take.{Take}
 use Rattle.std.specs.Io.Take.{take_limit, take_inner, take_remaining}
 use Rattle.gopher_tree.specs.Files.{File, total_bytes}
 use Rattle.std.specs.Option.{option_or}
-use Rattle.gopher_tree.specs.Fault.{file_fault, fault_after, AddsFile}
-use Rattle.gopher_tree.specs.Load.{StopsAt, StopsAtFolder, Lists, WalksTo, Loads, LoadsTo, IsUnreadable, Refuses}
+use Rattle.gopher_tree.specs.Fault.{file_fault, fault_after}
+use Rattle.gopher_tree.specs.Load.{StopsAt, Lists, Loads, LoadsTo, IsUnreadable, Refuses}
 use Rattle.gopher_tree.specs.declared.fault.TreeFault.{TreeFault}
 use Rattle.gopher_tree.specs.declared.fault.TreeFault.TheVariants.{NoMemory}
 use Rattle.gopher_tree.specs.declared.load.trail.Trail.{Trail}
@@ -47,35 +47,16 @@ abbrev pub with_hidden : Trail → ℕ → Trail
 with_hidden trail hidden =
     record { path = trail.path; size = trail.size; bytes = trail.bytes; folders = trail.folders; nowhere = trail.nowhere; hidden = hidden }
 
--- a walk that continues after the files listed so far
-pub walks_on : (first between : List File) (trail : Trail) (result : Result (List File) TreeFault) → Lists first between → WalksTo between trail result → WalksTo first trail result
-walks_on first between trail (Ok files) lists walks = lists_more first between files lists walks
-walks_on first between trail (Err fault) lists (files, more, stops) = (files, lists_more first between files lists more, stops)
-
--- a walk that stops without listing one more file
-pub walks_none : (first : List File) (trail : Trail) (result : Result (List File) TreeFault) (fault : TreeFault) → result ≡ Err fault → StopsAt first trail fault → WalksTo first trail result
-walks_none first trail result fault is stops = subst (WalksTo first trail) (sym is) (first, lists_none first, stops)
-
 pub stops_unreadable : (files : List File) (trail : Trail) (number : ℕ) (fault : TreeFault) → number ≡ length files → IsUnreadable number fault → StopsAt files trail fault
 stops_unreadable files trail number fault same unreadable = inr (inr (subst (λ n. IsUnreadable n fault) same unreadable))
 
-pub stops_memory : (files : List File) (trail : Trail) (fault : TreeFault) → fault ≡ NoMemory → StopsAt files trail fault
+stops_memory : (files : List File) (trail : Trail) (fault : TreeFault) → fault ≡ NoMemory → StopsAt files trail fault
 stops_memory files trail fault is = inr (inr (inr is))
 
-stops_file : (files : List File) (trail : Trail) (path bytes : List ℕ) (fault : TreeFault) → trail.path.items ≡ path → length bytes ≤ trail.size → trail.bytes ≡ total_bytes files → Refuses files trail (path, bytes) fault → StopsAt files trail fault
+pub stops_file : (files : List File) (trail : Trail) (path bytes : List ℕ) (fault : TreeFault) → trail.path.items ≡ path → length bytes ≤ trail.size → trail.bytes ≡ total_bytes files → Refuses files trail (path, bytes) fault → StopsAt files trail fault
 stops_file files trail path bytes fault at size total (inl (inl is)) = inl (bytes, size, total, ap (λ p. file_fault files (p, bytes)) at ∙ is)
 stops_file files trail path bytes fault at size total (inr full) = inr (inl (inr (inl full)))
 stops_file files trail path bytes fault at size total (inl (inr memory)) = stops_memory files trail fault memory.1
-
--- a walk that reaches a file
-pub walks_file : (first : List File) (trail : Trail) (path bytes : List ℕ) (result : Result (List File) TreeFault) → trail.path.items ≡ path → length bytes ≤ trail.size → trail.bytes ≡ total_bytes first
-    → IfOk result (AddsFile first (path, bytes)) → IfErr result (Refuses first trail (path, bytes)) → WalksTo first trail result
-walks_file first trail path bytes (Ok files) at size total lists refused = lists_one first (path, bytes) files lists.0 lists.1
-walks_file first trail path bytes (Err fault) at size total lists refused = (first, lists_none first, stops_file first trail path bytes fault at size total refused)
-
--- a folder with a fault
-pub stops_folder : (files : List File) (trail : Trail) (number : ℕ) (fault : TreeFault) → number ≡ length files → StopsAtFolder number trail fault → StopsAt files trail fault
-stops_folder files trail number fault same stops = inr (inl (subst (λ n. StopsAtFolder n trail fault) same stops))
 
 -- what a walk leaves on a trail, on some trail
 pub loads_on : (trail : Trail) (result : Result (List File) TreeFault) → LoadsTo trail result → Loads result

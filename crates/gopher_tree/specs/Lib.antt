@@ -7,4 +7,5 @@ pub mod Fault
 pub mod Reply
 pub mod Found
 pub mod Load
+pub mod Leaving
 pub mod Laws

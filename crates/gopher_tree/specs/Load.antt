@@ -75,12 +75,17 @@ pub record EntersFolder (number : ℕ) (old new : Trail) : Type 0 where
   pub room : HasRoom number old
   pub added : AddsPath old.folders new.folders old.path.items
 
+-- a walk stops after `number` files, because there are too many nodes or it is out of memory
+abbrev pub StopsFull : ℕ → Trail → TreeFault → Type 0
+StopsFull number trail fault =
+    (LeavesNoRoom number trail × (fault ≡ TooBig number)) ⊎ (fault ≡ NoMemory)
+
 -- a walk stops at the folder at the end of its trail, after `number` files: its selector is too
 -- long, there are too many nodes, or the walk is out of memory
 abbrev pub StopsAtFolder : ℕ → Trail → TreeFault → Type 0
 StopsAtFolder number trail fault =
     ((254 < length trail.path.items) × (fault ≡ LongSelector number))
-    ⊎ ((LeavesNoRoom number trail × (fault ≡ TooBig number)) ⊎ (fault ≡ NoMemory))
+    ⊎ StopsFull number trail fault
 
 -- a walk stops at the end of its trail after these files: the file there has the fault, the folder
 -- there has it, or something can't be read
@@ -94,13 +99,6 @@ StopsAt files trail fault =
 abbrev pub Lists : List File → List File → Type 0
 Lists before files =
     (added : List File) × (files ≡ before ++ added) × (fault_after before added ≡ None)
-
--- a walk that had listed `before` ends, or stops at the end of its trail after the files that it
--- has listed
-abbrev pub WalksTo : List File → Trail → Result (List File) TreeFault → Type 0
-WalksTo before trail (Ok files) = Lists before files
-WalksTo before trail (Err fault) =
-    (files : List File) × Lists before files × StopsAt files trail fault
 
 -- loading a folder returns the tree of the files that the walk lists, or fails with the fault at
 -- which the walk stops, at the end of its trail

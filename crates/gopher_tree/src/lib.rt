@@ -19,6 +19,7 @@ mod reply;
 mod tree;
 
 pub use fault::TreeFault;
+pub use load::left_out::LeftOut;
 pub use load::trail::Trail;
 pub use menu_file::{WrittenLine, written_line};
 pub use reply::{error_reply, not_found};

@@ -9,7 +9,7 @@ use crate::requests::{HELLO, Row, replies, served};
 use crate::stream::Ending;
 use gopher_catalogue::{Catalogue, Turn, Why};
 use gopher_crew::{Blank, Crew, Pass};
-use gopher_hole::{Site, answer};
+use gopher_hole::{Aliases, Site, answer};
 use gopher_page::Page;
 use gopher_serve::{Answers, Replies};
 use std::alloc::Global;
@@ -104,7 +104,8 @@ fn asks<C: Crew, R: Abort + AllocGlobal>(
     let mut pass = pass;
     for (line, wanted) in rows {
         assert!(rt; makes(rt.alloc(), replies, &mut pass, line, wanted));
-        let mut site = Site::new(replies, pass);
+        let aliases = Aliases::none(rt.alloc());
+        let mut site = Site::new(replies, &aliases, pass);
         assert!(rt; keeps(rt.alloc(), &mut site, line, wanted));
         pass = site.into_pass();
     }

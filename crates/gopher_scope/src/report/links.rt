@@ -32,8 +32,9 @@ impl<'a> Model for Site<'a> {
     ghost view = { λ s. record { home = s.home.now; root = s.root.now; files = s.tree.now } };
 }
 
-// Whether a line is of the server with this address.
-fn is_own(home: &Home, server: Option<(&[u8], u16)>) -> bool
+/// Returns whether a line of a menu is of the server with this address: it names no server, or this
+/// one. `server` is the line's host, with letters in any case, and its port.
+pub fn is_own(home: &Home, server: Option<(&[u8], u16)>) -> bool
     ensures { result ≡ is_own home.now (server_data server.entry) }
 {
     match server {
@@ -42,8 +43,9 @@ fn is_own(home: &Home, server: Option<(&[u8], u16)>) -> bool
     }
 }
 
-// Whether a client asks a Gopher server for items of this type.
-fn is_asked(kind: u8) -> bool
+/// Returns whether a client asks a Gopher server for items of this type: not for texts (`i`),
+/// errors (`3`) and sessions of other protocols (`2`, `8`, `T`: RFC 1436, section 3.8).
+pub fn is_asked(kind: u8) -> bool
     ensures { result ≡ is_asked kind }
 {
     !matches!(kind, b'i' | b'3' | b'2' | b'8' | b'T')
@@ -60,8 +62,8 @@ fn is_dead(site: &Site<'_>, line: WrittenLine<'_>) -> bool
         && site.tree.find(line.selector).is_none()
 }
 
-// Appends the path of a menu file.
-fn push_place(root: &str, path: &[u8], out: &mut Vec<u8>) -> Pushed
+/// Appends the path of a file or folder below a root.
+pub fn push_place(root: &str, path: &[u8], out: &mut Vec<u8>) -> Pushed
     ensures { Puts (place_words root.now path.now) out.old out.new result }
 {
     push_shown(root.as_bytes(), out)?;

@@ -1,18 +1,18 @@
 //! The report of a site without a fault: address, sizes, seeds, rules and warnings.
 
-ghost use Rattle.std.specs.Prelude.{IfOk};
+ghost use Rattle.std.specs.Prelude.{◌≡◌, IfOk};
 ghost use Rattle.std.specs.List.{flat_map};
 ghost use Rattle.gopher_scope.specs.Settings.{settings_data};
-ghost use Rattle.gopher_scope.specs.Lines.{Puts, address_lines, size_lines, seed_line, rule_lines, seeds_warning, counts_line, left_out, warnings};
-ghost use Rattle.gopher_scope.specs.Report.{IsSoundReport};
+ghost use Rattle.gopher_scope.specs.Lines.{Puts, address_lines, size_lines, left_out_line, seed_line, rule_lines, seeds_warning, counts_line, left_out, warnings};
+ghost use Rattle.gopher_scope.specs.Report.{number_of_lines, AreWarningsOn, IsSoundText, IsSoundReport};
 
-use super::fault_report::{Report, Reported};
+use super::fault_report::{Report, Reported, SoundSite};
 use super::lines::{push_address, push_count, push_number, push_server, push_words};
-use super::links::{Site, offers_search, push_dead_lines};
+use super::links::{Site, offers_search, push_dead_lines, push_place};
 use crate::fault::Pushed;
 use crate::settings::Settings;
 use gopher_item::{Home, NoMemory, Place, Rule};
-use gopher_tree::{Trail, Tree};
+use gopher_tree::{LeftOut, Trail, Tree};
 use std::alloc::Global;
 
 // Appends the server's address and the folder.
@@ -31,6 +31,19 @@ fn push_sizes(tree: &Tree, out: &mut Vec<u8>) -> Pushed
     push_number(b"files: ", tree.number_of_files(), out)?;
     push_number(b"menu files: ", tree.number_of_menus(), out)?;
     push_number(b"bytes: ", tree.number_of_bytes(), out)
+}
+
+// Appends a line for each file or folder that was left out.
+fn push_omitted(root: &str, left: &[LeftOut], out: &mut Vec<u8>) -> Pushed
+    ensures { Puts (flat_map (left_out_line root.now) left.now) out.old out.new result }
+{
+    for omitted in left {
+        push_count(b"left out: ", usize::from(omitted.fault.code()), out)?;
+        out.push(b' ')?;
+        push_place(root, &omitted.path, out)?;
+        out.push(b'\n')?;
+    }
+    Ok(())
 }
 
 fn push_seeds(seeds: &[Place], out: &mut Vec<u8>) -> Pushed
@@ -107,30 +120,80 @@ fn push_warnings(
     Ok(())
 }
 
-/// Makes the report of a site without a fault. It names the settings file, the address, the root,
-/// the numbers of files, menu files and bytes, the seeds and the rules of its crawl, each on its
-/// own line, and warnings: lines of menus that lead nowhere, what isn't served, and a search
-/// without seeds.
-pub fn site_report(
+// The number of lines.
+fn number_of_lines(lines: &[u8]) -> usize
+    ensures { result ≡ number_of_lines lines.now }
+{
+    lines.iter().filter(|byte| **byte == b'\n').count()
+}
+
+// The warnings of a site.
+fn site_warnings(
+    alloc: Global,
+    settings: &Settings,
+    tree: &Tree,
+    trail: &Trail,
+) -> Result<Vec<u8>, NoMemory>
+    ensures { IfOk result (AreWarningsOn (settings_data settings.now) tree.now trail.now) }
+{
+    let site = Site {
+        home: &settings.home,
+        root: settings.root.as_str(),
+        tree,
+    };
+    let mut words = Vec::new(alloc);
+    push_warnings(alloc, &site, &settings.seeds, trail, &mut words)?;
+    Ok(words)
+}
+
+// The words of the report of a site without a fault, with these warnings and with what was left
+// out.
+fn sound_text(
     alloc: Global,
     path: &[u8],
     settings: &Settings,
     tree: &Tree,
-    trail: &Trail,
-) -> Reported
-    ensures { IfOk result (IsSoundReport path.now (settings_data settings.now) tree.now trail.now) }
+    left: &[LeftOut],
+    warned: &[u8],
+) -> Result<Vec<u8>, NoMemory>
+    ensures { IfOk result (
+        IsSoundText path.now (settings_data settings.now) tree.now left.now warned.now) }
 {
     let (allow, deny) = settings.scope.rules();
-    let (home, root) = (&settings.home, settings.root.as_str());
     let mut words = Vec::new(alloc);
     push_words(b"settings: ", path, &mut words)?;
-    push_home(home, root, &mut words)?;
+    push_home(&settings.home, settings.root.as_str(), &mut words)?;
     push_sizes(tree, &mut words)?;
+    push_omitted(settings.root.as_str(), left, &mut words)?;
     push_seeds(&settings.seeds, &mut words)?;
     push_rules(b"may visit: ", allow, &mut words)?;
     push_rules(b"may not visit: ", deny, &mut words)?;
-    let site = Site { home, root, tree };
-    push_warnings(alloc, &site, &settings.seeds, trail, &mut words)?;
+    words.extend_from_slice(warned)?;
     words.extend_from_slice(b"sound\n")?;
-    Ok(Report { words, fault: None })
+    Ok(words)
+}
+
+/// Makes the report of a site without a fault. It names the settings file, the address, the root,
+/// the numbers of files, menu files and bytes, what was left out, the seeds and the rules of its
+/// crawl, each on its own line, and warnings: lines of menus that lead nowhere, what isn't served,
+/// and a search without seeds. What was left out counts as warnings. The report owns the site.
+pub fn site_report(
+    alloc: Global,
+    path: &[u8],
+    settings: Settings,
+    tree: Tree,
+    trail: &Trail,
+    left: &[LeftOut],
+) -> Reported
+    ensures { IfOk result (
+        IsSoundReport path.now (settings_data settings) tree trail.now left.now) }
+{
+    let warnings = site_warnings(alloc, &settings, &tree, trail)?;
+    let words = sound_text(alloc, path, &settings, &tree, left, &warnings)?;
+    Ok(Report {
+        words,
+        fault: None,
+        warnings: number_of_lines(&warnings) + left.len(),
+        site: Some(SoundSite { settings, tree }),
+    })
 }

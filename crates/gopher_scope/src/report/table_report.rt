@@ -18,7 +18,7 @@ fn push_unknown(path: &[u8], key: &UnknownKey<'_>, out: &mut Vec<u8>) -> Pushed
     ensures { Puts (unknown_report path.now key.now) out.old out.new result }
 {
     let fault = SiteFault::Settings(SettingsFault::UnknownKey);
-    push_fault(fault, path, None, key.array, key.name.as_bytes(), out)
+    push_fault(fault, path, None, None, key.array, key.name.as_bytes(), out)
 }
 
 // Appends the report of each of these unknown keys.
@@ -37,7 +37,8 @@ fn push_keys(path: &[u8], table: &Table, keys: &[Key], out: &mut Vec<u8>) -> Pus
 {
     for key in keys {
         if let Some(fault) = key_fault(table, *key) {
-            push_fault(SiteFault::Settings(fault), path, None, None, b"", out)?;
+            let spot = key.row().spot(table);
+            push_fault(SiteFault::Settings(fault), path, None, spot, None, b"", out)?;
         }
     }
     Ok(())

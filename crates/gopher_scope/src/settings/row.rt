@@ -6,11 +6,11 @@ ghost use Rattle.std.specs.Option.{option_copied, option_map};
 ghost use Rattle.toml.specs.Data.{as_integer, as_str};
 ghost use Rattle.toml.specs.View.{view, table_view};
 ghost use Rattle.gopher_scope.specs.Rows.{absent_text, is_in_range};
-ghost use Rattle.gopher_scope.specs.Values.{integer_problem, number_read, text_problem, scalar_problem, form_problem, integer_read, text_read, values_read, value_at};
+ghost use Rattle.gopher_scope.specs.Values.{integer_problem, number_read, text_problem, scalar_problem, form_problem, form_spot, integer_read, text_read, values_read, value_at};
 ghost use Rattle.gopher_scope.specs.Settings.{fault_at};
 
 use super::key::Key;
-use super::tables::Element;
+use super::tables::{Element, Spot};
 use crate::fault::SettingsFault;
 use gopher_item::{is_host, is_selector};
 use std::marker::Model;
@@ -165,6 +165,16 @@ impl Row {
         match (self.form, self.value(table)) {
             (Form::Tables(element), Some(value)) => element.problem(value),
             _ => self.scalar_problem(table),
+        }
+    }
+
+    /// Returns where in the key's value its fault is, if an element of an array has it.
+    pub(crate) fn spot(&self, table: &Table) -> Option<Spot>
+        ensures { result ≡ form_spot self.now.1 (value_at (table_view table.now) self.now) }
+    {
+        match (self.form, self.value(table)) {
+            (Form::Tables(element), Some(value)) => element.spot(value),
+            _ => None,
         }
     }
 

@@ -1,10 +1,10 @@
 //! The tables in `seeds`, `allow` and `deny`: their keys, `Field`, and their kinds, `Element`.
 
 ghost use Rattle.std.specs.Prelude.{◌≡◌, map, Some};
-ghost use Rattle.toml.specs.Data.{as_array};
+ghost use Rattle.toml.specs.Data.{as_array, as_table};
 ghost use Rattle.toml.specs.View.{view, table_view};
 ghost use Rattle.gopher_scope.specs.Rows.{element_fields, field_row};
-ghost use Rattle.gopher_scope.specs.Values.{first_of, table_problem, element_problem, array_problem};
+ghost use Rattle.gopher_scope.specs.Values.{first_of, table_problem, element_problem, array_problem, faulty_field, spot_at, first_spot, array_spot};
 ghost use Rattle.gopher_scope.specs.Unknown.{is_field_name};
 
 use super::row::{Form, Problem, Row, TextKind};
@@ -43,6 +43,15 @@ impl Field {
         };
         Row { name, form }
     }
+}
+
+/// Where in an array a fault is.
+#[derive(Clone, Copy, Debug)]
+pub(crate) struct Spot {
+    /// The index of the element with the fault, from 0.
+    pub(crate) index: usize,
+    /// The key with the fault in the table there; `None` if the element isn't a table.
+    pub(crate) field: Option<Field>,
 }
 
 /// The kind of the tables in an array.
@@ -105,6 +114,62 @@ impl Element {
             None => Some(Problem::WrongKind),
             Some(array) if array.len() <= MAX_TABLES => self.elements_problem(array),
             Some(_) => Some(Problem::OutOfRange),
+        }
+    }
+
+    // The first key of a table with a fault, in the order in which they are checked.
+    fn faulty_field(self, table: &Table) -> Option<Field>
+        ensures { result ≡ faulty_field self (Some (table_view table.now)) }
+    {
+        let fields = self.fields();
+        for field in fields {
+            if field.row().scalar_problem(table).is_some() {
+                return Some(*field);
+            }
+        }
+        None
+    }
+
+    // The first key with a fault of an element, if it is a table.
+    fn element_field(self, value: &Value) -> Option<Field>
+        ensures { result ≡ faulty_field self (as_table (view value.now)) }
+    {
+        match value.as_table() {
+            None => None,
+            Some(table) => self.faulty_field(table),
+        }
+    }
+
+    // Where the fault of the element at this index is, if it has one.
+    fn spot_at(self, index: usize, value: &Value) -> Option<Spot>
+        ensures { result ≡ spot_at self (index, view value.now) }
+    {
+        let _problem = self.element_problem(value)?;
+        let field = self.element_field(value);
+        Some(Spot { index, field })
+    }
+
+    // Where the fault of the first element with a fault is.
+    fn first_spot(self, values: &[Value]) -> Option<Spot>
+        ensures { result ≡ first_spot self (map view values.now) }
+    {
+        for (index, value) in values.iter().enumerate() {
+            if let Some(spot) = self.spot_at(index, value) {
+                return Some(spot);
+            }
+        }
+        None
+    }
+
+    /// Returns where in a value that has to be an array of such tables its first fault is, if an
+    /// element has it; `None` for a fault of the whole value.
+    pub(crate) fn spot(self, value: &Value) -> Option<Spot>
+        ensures { result ≡ array_spot self (as_array (view value.now)) }
+    {
+        match value.as_array() {
+            None => None,
+            Some(array) if array.len() <= MAX_TABLES => self.first_spot(array),
+            Some(_) => None,
         }
     }
 

@@ -2,7 +2,7 @@
 //! listeners an event has it accept, and what the error of a failed accept means.
 
 ghost use Rattle.std.specs.Prelude.{◌≡◌};
-ghost use Rattle.gopher_server.specs.Accepting.{after_event, duty_at, failure_of, has_ended, is_watching, listeners_at as listeners_at_token, pause_end};
+ghost use Rattle.gopher_server.specs.Accepting.{after_event, duty_at, failure_of, has_ended, is_watching, listeners_at as listeners_at_token, loss_after, pause_end};
 
 use std::ops::Range;
 
@@ -13,8 +13,12 @@ pub const FIRST_LISTENER: usize = usize::MAX - 1_024;
 /// The token of the events of a thread's waker.
 pub const WAKER: usize = usize::MAX - 1_025;
 
-// For how many milliseconds a thread accepts nothing if descriptors or memory are short.
+// For how many milliseconds a thread accepts nothing if descriptors or memory are short, or many
+// connections in a row are lost.
 const PAUSE: u64 = 100;
+
+// This many connections in a row that are lost are too many.
+const MANY_LOST: u32 = 64;
 
 /// Whether a server thread accepts connections, and if not, why.
 #[derive(Clone, Copy, Debug)]
@@ -23,7 +27,8 @@ pub enum Accepting {
     Watches,
     /// It holds many more connections than its share, and leaves new ones to other threads.
     Leaves,
-    /// Descriptors or memory are short: it accepts nothing before this time, in milliseconds.
+    /// Descriptors or memory are short, or many connections in a row are lost: it accepts nothing
+    /// before this time, in milliseconds.
     Pauses(u64),
     /// It accepts nothing more.
     Ended,
@@ -32,7 +37,7 @@ pub enum Accepting {
 /// What changes whether a server thread accepts connections.
 #[derive(Clone, Copy, Debug)]
 pub enum AcceptEvent {
-    /// Descriptors or memory are short.
+    /// Descriptors or memory are short, or many connections in a row are lost.
     IsShort,
     /// The quota is used up, or the thread fails.
     Ends,
@@ -71,6 +76,8 @@ pub fn listeners_at(token: usize, listeners: usize) -> Option<Range<usize>>
 pub enum AcceptFailure {
     /// The connection is lost; the next may be accepted.
     IsLost,
+    /// It is lost like 63 before it, so waiting may help.
+    AreLost,
     /// Descriptors or memory are short; the connection waits.
     IsShort,
     /// They are short again, so closing one more connection makes no room.
@@ -79,10 +86,23 @@ pub enum AcceptFailure {
     IsBroken,
 }
 
-/// Returns what an error of accept(2) means, by its number on Linux. `was_short` says whether the
-/// accept before failed because descriptors or memory were short.
-pub fn failure_of(error: u32, was_short: bool) -> AcceptFailure
-    ensures { result ≡ failure_of error was_short }
+// What a connection that is lost means after `lost` others in a row.
+fn loss_after(lost: u32) -> AcceptFailure
+    ensures { result ≡ loss_after lost }
+{
+    if lost < MANY_LOST - 1 {
+        AcceptFailure::IsLost
+    } else {
+        AcceptFailure::AreLost
+    }
+}
+
+/// Returns what an error of accept(2) means, by its number on Linux, or 0 if it has none, as the
+/// client then has no IP address. `was_short` says whether the accept before failed because
+/// descriptors or memory were short. `lost` is the number of accepts in a row before it whose
+/// connections were lost.
+pub fn failure_of(error: u32, was_short: bool, lost: u32) -> AcceptFailure
+    ensures { result ≡ failure_of error was_short lost }
 {
     match error {
         // ENOMEM, ENFILE, EMFILE, ENOBUFS
@@ -94,9 +114,10 @@ pub fn failure_of(error: u32, was_short: bool) -> AcceptFailure
             }
         }
         // The call was interrupted, or one connection is lost. EPERM, EINTR, and the network errors
-        // after which accept(2) says to try again: ENONET, EPROTO, ENOPROTOOPT, EOPNOTSUPP,
-        // ENETDOWN, ENETUNREACH, ECONNABORTED, EHOSTDOWN, EHOSTUNREACH
-        1 | 4 | 64 | 71 | 92 | 95 | 100 | 101 | 103 | 112 | 113 => AcceptFailure::IsLost,
+        // after which accept(2) says to try again: ENONET, EPROTO, ENOPROTOOPT, ENETDOWN,
+        // ENETUNREACH, ECONNABORTED, EHOSTDOWN, EHOSTUNREACH. It names EOPNOTSUPP too, but every
+        // accept at a socket without connections fails with that.
+        0 | 1 | 4 | 64 | 71 | 92 | 100 | 101 | 103 | 112 | 113 => loss_after(lost),
         _ => AcceptFailure::IsBroken,
     }
 }

@@ -30,6 +30,26 @@ pub(crate) enum Target {
     Neither,
 }
 
+// The names of a folder.
+#[derive(Debug, Drop)]
+pub(crate) struct Names {
+    // Those that are listed.
+    pub(crate) shown: Vec<String>,
+    // How many aren't UTF-8 and are left out.
+    pub(crate) nameless: usize,
+}
+
+impl Names {
+    fn none(alloc: Global) -> Names
+        ensures { result.shown.items ≡ [] }
+    {
+        Names {
+            shown: Vec::new(alloc),
+            nameless: 0,
+        }
+    }
+}
+
 // The fault of a file or folder that can't be read; `number` files were listed before.
 fn read_fault(error: io::Error, number: usize) -> TreeFault
     ensures memory { error_kind error ≡ OutOfMemory → result ≡ TreeFault.NoMemory }
@@ -73,18 +93,26 @@ fn push_shown(
     Ok(())
 }
 
-// Appends the listed names of a folder, and counts the others.
+// Appends the listed names of a folder, and counts the others: the hidden ones, and those that
+// aren't UTF-8 if the walk leaves them out.
 fn push_names<R: Files + AllocGlobal + Clone + Drop>(
     rt: &R,
     folder: Path<'_>,
-    names: &mut Vec<String>,
+    leaves_out: bool,
+    names: &mut Names,
     hidden: &mut usize,
 ) -> io::Result<()>
-    requires { AreShown names.old.items }
-    ensures { AreShown names.new.items }
+    requires { AreShown names.old.shown.items }
+    ensures { AreShown names.new.shown.items }
 {
     for entry in fs::read_dir(rt, folder)? {
-        push_shown(rt.alloc(), entry?.file_name(), names, hidden)?;
+        match entry {
+            Ok(entry) => push_shown(rt.alloc(), entry.file_name(), &mut names.shown, hidden)?,
+            Err(error) if leaves_out && error.kind() == ErrorKind::InvalidFilename => {
+                names.nameless = names.nameless.saturating_add(1);
+            }
+            Err(error) => return Err(error),
+        }
     }
     Ok(())
 }
@@ -94,12 +122,13 @@ fn shown_names<R: Files>(
     rt: &R,
     alloc: Global,
     folder: Path<'_>,
+    leaves_out: bool,
     hidden: &mut usize,
-) -> io::Result<Vec<String>>
-    ensures { IfOk result (λ names. AreShown names.items) }
+) -> io::Result<Names>
+    ensures { IfOk result (λ names. AreShown names.shown.items) }
 {
-    let mut names = Vec::new(alloc);
-    push_names(&(rt, alloc), folder, &mut names, hidden)?;
+    let mut names = Names::none(alloc);
+    push_names(&(rt, alloc), folder, leaves_out, &mut names, hidden)?;
     Ok(names)
 }
 
@@ -108,27 +137,28 @@ fn is_missing(kind: ErrorKind) -> bool {
     matches!(kind, ErrorKind::NotFound | ErrorKind::NotADirectory)
 }
 
-// The listed names of a folder in byte order. A name that isn't UTF-8 can't be read, hidden or not.
-// A folder that has vanished has none, except the root. `number` files were listed before. Counts
-// the other names.
+// The listed names of a folder in byte order. A name that isn't UTF-8 can't be read, hidden or not:
+// it is a fault, unless the walk leaves it out. A folder that has vanished has no names, except the
+// root. `number` files were listed before. Counts the other names.
 pub(crate) fn names_in<R: Files>(
     rt: &R,
     alloc: Global,
     folder: Path<'_>,
     is_root: bool,
     number: usize,
+    leaves_out: bool,
     hidden: &mut usize,
-) -> Result<Vec<String>, TreeFault>
-    ensures shown { IfOk result (λ names. AreShown names.items) }
-    ensures order { IfOk result (λ names. IsSorted string_cmp names.items) }
+) -> Result<Names, TreeFault>
+    ensures shown { IfOk result (λ names. AreShown names.shown.items) }
+    ensures order { IfOk result (λ names. IsSorted string_cmp names.shown.items) }
     ensures refused { IfErr result (IsUnreadable number) }
 {
-    let mut names = match shown_names(rt, alloc, folder, hidden) {
+    let mut names = match shown_names(rt, alloc, folder, leaves_out, hidden) {
         Ok(names) => names,
-        Err(error) if !is_root && is_missing(error.kind()) => Vec::new(alloc),
+        Err(error) if !is_root && is_missing(error.kind()) => Names::none(alloc),
         Err(error) => return Err(read_fault(error, number)),
     };
-    names.sort().or(Err(TreeFault::NoMemory))?;
+    names.shown.sort().or(Err(TreeFault::NoMemory))?;
     Ok(names)
 }
 

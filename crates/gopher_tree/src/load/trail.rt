@@ -1,11 +1,11 @@
 //! `Trail`: what a walk through a folder of the file system has met.
 
-ghost use Rattle.std.specs.Prelude.{◌≡◌, [], length, OnOk, IfErr};
-ghost use Rattle.gopher_tree.specs.Load.{AddsPath, EntersFolder, StopsAtFolder, leaves_no_room};
+ghost use Rattle.std.specs.Prelude.{true, false, ◌≡◌, ◌≤◌, [], length, OnOk, IfErr};
+ghost use Rattle.gopher_tree.specs.Leaving.{OmitsLast};
+ghost use Rattle.gopher_tree.specs.Load.{AddsPath, EntersFolder, StopsFull, leaves_no_room};
 
 use crate::fault::TreeFault;
 use crate::tree::MAX_NODES;
-use crate::tree::path::MAX_PATH;
 use gopher_item::NoMemory;
 use std::alloc::Global;
 
@@ -22,7 +22,8 @@ pub struct Trail {
     pub size: usize,
     /// The number of bytes of all files listed before it.
     pub bytes: usize,
-    /// The paths of the folders that the walk visited below the root, in its order.
+    /// The paths of the folders that the walk visited below the root, in its order, without those
+    /// that it left out.
     pub folders: Vec<Vec<u8>>,
     /// The number of names that lead to neither a file nor a folder.
     pub nowhere: usize,
@@ -64,19 +65,27 @@ impl Trail {
         number >= MAX_BELOW || self.folders.len() >= MAX_BELOW - number
     }
 
-    // Visits the folder at the path, after `number` files, or fails with its first fault.
+    // Visits the folder at the path, after `number` files, or fails because it is too many.
     pub(crate) fn enter(&mut self, alloc: Global, number: usize) -> Result<(), TreeFault>
+        requires { length self.old.path.items ≤ 254 }
         ensures visited { OnOk result (EntersFolder number self.old self.new) }
-        ensures refused { IfErr result (StopsAtFolder number self.new) }
+        ensures refused { IfErr result (StopsFull number self.new) }
         ensures kept { self.new.path.items ≡ self.old.path.items }
     {
-        if self.path.len() > MAX_PATH {
-            return Err(TreeFault::LongSelector { file: number });
-        }
         if self.leaves_no_room(number) {
             return Err(TreeFault::TooBig { file: number });
         }
         note(alloc, &self.path, &mut self.folders).or(Err(TreeFault::NoMemory))
+    }
+
+    // Forgets the folder that was visited last, if the walk leaves it out.
+    pub(crate) fn forget(&mut self, leaves_out: bool)
+        ensures left { leaves_out ≡ true → OmitsLast self.old.folders.items self.new.folders.items }
+        ensures kept { leaves_out ≡ false → self.new ≡ self.old }
+    {
+        if leaves_out {
+            let _folder = self.folders.pop();
+        }
     }
 }
 

@@ -3,6 +3,7 @@
 ghost use Rattle.std.specs.Prelude.{◌≡◌, ◌<◌, ◌++◌, length, IfOk, OnOk};
 ghost use Rattle.std.specs.Option.{option_map};
 ghost use Rattle.gopher_tree.specs.Fault.{path_fault};
+ghost use Rattle.gopher_tree.specs.Leaving.{folder_fault};
 ghost use Rattle.gopher_tree.specs.Path.{names_of, first_name, last_name, is_menu_name, is_bad_name, has_bad_name, is_menu_path, path_of, prefix_of, path_in, menu_path};
 
 use crate::fault::TreeFault;
@@ -75,6 +76,20 @@ pub(crate) fn path_fault(number: usize, path: &[u8]) -> Option<TreeFault>
         Some(TreeFault::Reserved { file: number })
     } else if path.len() > MAX_PATH {
         Some(TreeFault::LongSelector { file: number })
+    } else {
+        None
+    }
+}
+
+// The first fault of a folder alone; `number` files are before it. A walk that leaves nothing out
+// meets a bad name at the first file below.
+pub(crate) fn folder_fault(number: usize, leaves_out: bool, path: &[u8]) -> Option<TreeFault>
+    ensures { result ≡ folder_fault number leaves_out path.now }
+{
+    if path.len() > MAX_PATH {
+        Some(TreeFault::LongSelector { file: number })
+    } else if leaves_out && (has_bad_name(path) || is_menu_path(path)) {
+        Some(TreeFault::BadName { file: number })
     } else {
         None
     }

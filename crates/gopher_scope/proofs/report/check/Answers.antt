@@ -7,5 +7,5 @@ use Rattle.gopher_scope.proofs.report.check.Goals as goal
 pub returns-in-Ok : goal.returns-in-Ok
 returns-in-Ok g c =
     let table = table_view c.in-Ok.table in
-    IfOk-weaker c.checked_table.result (IsReportOnTable c.as_bytes-path.result.now table) (IsReportOnText c.args.path.now c.args.text.now)
-    (λ report on. inl (table, c.in-Ok.ensures.ok, subst (λ path. IsReportOnTable path table report) c.as_bytes-path.ensures.value on)) c.checked_table.ensures
+    IfOk-weaker c.checked_table.result (IsReportOnTable c.args.leave_out c.as_bytes-path.result.now table) (IsReportOnText c.args.leave_out c.args.path.now c.args.text.now)
+    (λ report on. inl (table, c.in-Ok.ensures.ok, subst (λ path. IsReportOnTable c.args.leave_out path table report) c.as_bytes-path.ensures.value on)) c.checked_table.ensures

@@ -7,4 +7,4 @@ abbrev pub invariant-loop-entry : goal.invariant-loop-entry
 invariant-loop-entry g l =
     (goal.iterator-loop-entry g).can_next l.entry-iterator
     × (goal.iterator-loop-entry g).is_finite l.entry-iterator
-    × All (λ name. is_shown (string_bytes name) ≡ true) l.names.items
+    × All (λ name. is_shown (string_bytes name) ≡ true) l.names.shown.items

@@ -1,0 +1,4 @@
+pub mod UnderWay
+pub mod Sets
+pub mod Reasons
+pub mod ReachedTexts
