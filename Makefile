@@ -85,6 +85,12 @@ documents:
 clients: crates/hole/out/hole
 	tests/clients.py
 
+# Asks the proved program for an hour beside the crawl of a hostile host: each reply has to be right, and its memory has to stay.
+# If there is no proved program, it begins with an hour of proofs.
+.PHONY: soak
+soak: crates/hole/out/hole
+	tests/soak.py
+
 # Seconds and megabytes a second, on scripts and files that bench/ makes, and the tables of docs/TIMINGS.md that follow.
 # make bench OUTPUT=FILE keeps what it printed; bench/table.py --write FILE then puts the tables into the document.
 .PHONY: bench

@@ -5,8 +5,8 @@
 
 A crowd of clients that say nothing, send a byte a second, read nothing of 8 MiB, or reset in mid-reply stays for N seconds
 (7 without N). Then come lines at and over the limit, lines that ask for what lies outside of the folder or is hidden, lines
-without an end, clients that send on, more silent clients than there are places, one that stays after its reply, descriptors
-that are short, clients that ask for 8 MiB or a large menu and read nothing, and clients that ask the heaviest searches. Every
+without an end, clients that send on, more silent clients than there are places, beside downloads too, more of one address than
+may be, one that stays after its reply, descriptors that are short, clients that ask for 8 MiB or a large menu and read nothing, and clients that ask the heaviest searches. Every
 ordinary client has to be answered whole within SOON seconds, the program's memory has to stay below KIB (24,576 without it; a
 build with an address sanitizer, as `rt try` makes, takes some 64,000), and the program has to end well. The last line is
 'attack: N passed, M failed'. It takes about N + 60 seconds, and some minutes if the program fails.
@@ -41,6 +41,11 @@ SOON = 5.0
 MOST_MEMORY = 24_576  # KiB, of a server whose files have 9 MiB
 PLACES, EXCESS, MOST_ABOVE, ATTEMPTS = 100, 10, 20, 5
 MAX_HELD = 300_000_000
+# So many take three times the bytes of 1,000 if the queue of each is as large as that of a few.
+DEAF_CROWD, MAX_HELD_BY_CROWD = 3_000, 450_000_000
+# For servers whose clients all have one address.
+ANY_ADDRESS = ("--clients-per-address", 100_000)
+DOWNLOADS = 5
 LINGERS = 16  # seconds
 DEAF_TO_LARGE = 20
 WAITING = 1_000
@@ -273,7 +278,7 @@ def attack_by_waiting(attacked):
     for threads in (1, 2, 4, 8):
         with contextlib.ExitStack() as ends:
             how = {"more": f"threads = {threads}\n", "before": with_few_files(PLACES + 64)}
-            server = ends.enter_context(attacked.serving(**how))
+            server = ends.enter_context(attacked.serving(*ANY_ADDRESS, **how))
             silent = clients_of(ends, server, PLACES)
             attacked.expect(f"clients closed at {threads} threads while there is room", settled(silent, 1), [])
             silent += clients_of(ends, server, 3 * PLACES)
@@ -308,7 +313,7 @@ def attack_by_excess(attacked):
     """Clients that come one by one, so that one thread holds more than its share: it is that thread that closes for the other."""
     for attempt in range(1, ATTEMPTS + 1):
         with contextlib.ExitStack() as ends:
-            server = ends.enter_context(attacked.serving(more="threads = 2\n", before=with_few_files(PLACES + 64)))
+            server = ends.enter_context(attacked.serving(*ANY_ADDRESS, more="threads = 2\n", before=with_few_files(PLACES + 64)))
             polls, silent = Polls(server, 2), []
             for _ in range(PLACES):
                 before = polls.held()
@@ -328,7 +333,7 @@ def attack_by_excess(attacked):
 def attack_by_use(attacked):
     """A client that sends on is not the longest idle."""
     with contextlib.ExitStack() as ends:
-        server = ends.enter_context(attacked.serving(more="threads = 1\n", before=with_few_files(PLACES + 64)))
+        server = ends.enter_context(attacked.serving(*ANY_ADDRESS, more="threads = 1\n", before=with_few_files(PLACES + 64)))
         slow, *_ = clients_of(ends, server, PLACES)
         for byte in b"/a.txt":
             time.sleep(0.3)
@@ -337,6 +342,43 @@ def attack_by_use(attacked):
             clients_of(ends, server, PLACES // 2)
         slow.sendall(b"\r\n")
         attacked.expect("a client that sends on is answered", read_all(slow), b"hello\r\n.\r\n")
+
+
+def attack_by_connecting(attacked):
+    """Clients that only connect, many more than there are places, cut no download."""
+    with contextlib.ExitStack() as ends:
+        server = ends.enter_context(attacked.serving(*ANY_ADDRESS, more="threads = 2\n", before=with_few_files(PLACES + 64)))
+        readers = clients_of(ends, server, DOWNLOADS)
+        for reader in readers:
+            reader.sendall(b"/large.png\r\n")
+            reader.recv(1, socket.MSG_PEEK)
+        silent = clients_of(ends, server, 3 * PLACES)
+        settled(silent, 2 * PLACES)
+        attacked.is_answered(server, "a client beside so many silent ones")
+        attacked.expect("downloads that end whole", number_whole(readers, LARGE), DOWNLOADS)
+
+
+def attack_by_one_address(attacked):
+    """An address holds a quarter of the places at most, so it can't take those of others."""
+    with contextlib.ExitStack() as ends:
+        server = ends.enter_context(attacked.serving("--listen", HOST, more="threads = 2\n", before=with_few_files(PLACES + 64)))
+        others = [ends.enter_context(connect_from("127.0.0.3", server.port)) for _ in range(PLACES // 8)]
+        crowd = clients_of(ends, server, PLACES)
+        attacked.expect("connections of one address that are closed", len(settled(crowd, PLACES - PLACES // 4)), PLACES - PLACES // 4)
+        attacked.expect("connections of another address that are closed", closed_among(others), [])
+        with connect_from("127.0.0.3", server.port) as client:
+            client.sendall(b"/a.txt\r\n")
+            attacked.expect("a client of another address", read_all(client), b"hello\r\n.\r\n")
+        for client in crowd:
+            client.close()
+        time.sleep(0.3)
+        again = clients_of(ends, server, PLACES // 4)
+        attacked.expect("closed connections of the address after those are gone", settled(again, 1), [])
+
+
+def connect_from(address, port):
+    """A connection from an address of this machine."""
+    return socket.create_connection((HOST, port), timeout=WAIT, source_address=(address, 0))
 
 
 def attack_by_staying(attacked):
@@ -423,6 +465,23 @@ def attack_by_deaf(attacked):
         print(f"attack: {held} bytes of the system for {SILENT} deaf clients; p99 {late:.3f} s", flush=True)
 
 
+def attack_by_deaf_crowd(attacked):
+    """The more clients there are that read nothing, the less the system holds for each."""
+    with contextlib.ExitStack() as ends:
+        server = ends.enter_context(attacked.serving("--listen", HOST, *ANY_ADDRESS))
+        before = kernel_bytes()
+        for _ in range(DEAF_CROWD):
+            client = ends.enter_context(socket.socket())
+            client.setsockopt(socket.SOL_SOCKET, socket.SO_RCVBUF, 4_096)
+            client.settimeout(WAIT)
+            client.connect((HOST, server.port))
+            client.sendall(b"/large.png\r\n")
+        attacked.is_answered(server, "an ordinary client beside them")
+        held = kernel_bytes() - before
+        attacked.expect(f"{held} bytes of the system are below {MAX_HELD_BY_CROWD}", held < MAX_HELD_BY_CROWD, True)
+        print(f"attack: {held} bytes of the system for {DEAF_CROWD} deaf clients with small queues", flush=True)
+
+
 def attack_by_large_replies(attacked):
     """Many clients ask for a large menu or a large text and read nothing: the server holds no copy for each."""
     lines, host = 65_000, "h" * 250
@@ -492,7 +551,8 @@ def attack_by_searches(attacked):
 
 ATTACKS = (
     attack_by_crowd, attack_by_lines, attack_by_senders, attack_by_waiting, attack_by_excess, attack_by_use,
-    attack_by_refused_accepts, attack_by_deaf, attack_by_large_replies, attack_by_searches,
+    attack_by_connecting, attack_by_one_address, attack_by_refused_accepts, attack_by_deaf, attack_by_deaf_crowd,
+    attack_by_large_replies, attack_by_searches,
 )
 
 

@@ -23,8 +23,9 @@ MOST_HITS = 50
 TRIES = 3
 MOON = b"moon\r\n.\r\n"
 ABSENT = "No such file or directory (os error 2)"
-# A reply of one byte more than a crawl takes.
-TOO_LONG = b"x" * (1_048_576 + 1)
+# The longest reply that a crawl takes, whose last line has no end, and one of a byte more.
+LONGEST = b"longest ".ljust(1_048_576, b"x")
+TOO_LONG = LONGEST + b"x"
 # So many failed places are printed, and the host's menu has some more that fail.
 MOST_PRINTED, MORE = 1_000, 7
 # The pieces of a text, sent one by one: a word is cut, and so are the end of a line and the last line.
@@ -85,29 +86,30 @@ def check_crawl(test):
 
 
 def check_limits(test):
-    """Crawls a menu with a text, texts whose fetches fail, one of them only once, and one that a rule denies."""
-    replies = {b"/long": TOO_LONG, b"/text": MOON, b"/late": MOON}
+    """Crawls a menu with a text, the longest that is found, texts whose fetches fail, one of them only once, and one that a rule
+    denies."""
+    replies = {b"/long": TOO_LONG, b"/longest": LONGEST, b"/text": MOON, b"/late": MOON}
 
     def answer(line):
         return None if line == b"/late" and host.asked.count(line) == 1 else replies.get(line)
 
     with Host(answer) as host:
-        replies[b""] = host.menu(b"0", (b"/text", b"/fails", b"/late", b"/long", b"/private/text", b"/text"))
+        replies[b""] = host.menu(b"0", (b"/text", b"/fails", b"/late", b"/long", b"/longest", b"/private/text", b"/text"))
         denied = f'[[deny]]\nhost = "{HOST}"\nport = {host.port}\nprefix = "/private"\n'
         with crawling(test, seeded(host.port, f"tries = {TRIES}") + denied, "--progress", "--requests", 1) as server:
             until_true(lambda: min(map(host.asked.count, (b"/fails", b"/long"))) >= TRIES)
             time.sleep(SECONDS_AFTER)
-            wanted = {b"": 1, b"/text": 1, b"/fails": TRIES, b"/late": 2, b"/long": TRIES}
+            wanted = {b"": 1, b"/text": 1, b"/fails": TRIES, b"/late": 2, b"/long": TRIES, b"/longest": 1}
             test.expect("what a host is asked for, and how often", dict(collections.Counter(host.asked)), wanted)
-            ask(server.port, b"\r\n")
+            test.expect("the longest reply is found", searched(server, b"longest"), [b"/longest"])
             output, error, status = server.end()
-        sizes = b"known 5 waiting 0 out 0 done 5 dropped 0"
+        sizes = b"known 6 waiting 0 out 0 done 6 dropped 0"
         test.expect("the end of a crawl with failed places", (output, status), (sizes + b"\n", 0))
         failed = (("fails", "read: connection reset"), ("long", "too long"))
         lines = [f"hole: failed: gopher://{HOST}:{host.port}/0/{name}: {why}" for name, why in failed]
         told = error.decode().splitlines()
         test.expect("the places that failed for good", sorted(told[:-2]), lines)
-        ended = [sizes.decode() + " failed 2", "hole: crawl finished: 3 found, 2 failed, 0 dropped in S s"]
+        ended = [sizes.decode() + " failed 2", "hole: crawl finished: 4 found, 2 failed, 0 dropped in S s"]
         test.expect("how many they are", without_seconds(told[-2:]), ended)
 
 

@@ -108,11 +108,12 @@ def check_whole_replies(test):
 
 def check_full_server(test):
     """A connection that is closed for room is reset if its reply isn't sent whole, and else ended in order."""
-    with test.serving(test.site(FILES), before=with_few_files(FILES_LEFT + PLACES), more="threads = 1\n") as server:
+    words, few = ("--clients-per-address", 2 * PLACES), with_few_files(FILES_LEFT + PLACES)
+    with test.serving(test.site(FILES), *words, before=few, more="threads = 1\n") as server:
         reader, silent, begun = slow_reader(server.port), connect(server.port), slow_reader(server.port, b"/large")
         with contextlib.ExitStack() as others:
             for _ in range(PLACES + 10):
-                others.enter_context(connect(server.port))
+                others.enter_context(slow_reader(server.port))
                 time.sleep(0.01)
             expect_cut(test, "a reader whose connection was closed for room", reader)
             test.expect("a client that sent nothing", read_to_end(silent), (b"", "in order"))

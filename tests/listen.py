@@ -107,7 +107,7 @@ def check_activation(test):
 def check_lost_thread(test):
     """A thread ends whose listener is broken. The other accepts what was reported to it, at each listener, and has its places."""
     before = (*with_few_files(FILES_LEFT + PLACES), *test.preload("refusing", BROKEN_ACCEPTS=1))
-    words = ("--progress", "--listen", HOST, "--listen", OTHER)
+    words = ("--progress", "--clients-per-address", 2 * PLACES, "--listen", HOST, "--listen", OTHER)
     with test.serving(test.site(FILES), *words, more="threads = 2\n", before=before) as server:
         at_second = ask_whole(server.port, b"/a.txt\r\n", OTHER)
         test.expect("a client that was reported to a thread that ended", at_second, REPLY)

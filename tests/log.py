@@ -51,8 +51,8 @@ class Logs:
 
     @contextlib.contextmanager
     def logging(self, path, requests=None, **how):
-        """A server with a log, which ends well after so many requests if they are given."""
-        words = ("--requests", requests) if requests else ()
+        """A server with a log, which ends well after so many requests if they are given. All its clients have one address."""
+        words = ("--clients-per-address", 1_000, *(("--requests", requests) if requests else ()))
         with self.serving("--log", path, *words, **how) as server:
             yield server
             if requests:
@@ -188,9 +188,12 @@ def check_closed(logs):
         deaf.sendall(b"/large.png\r\n")
         # the others come once the server has written all that the system takes, so that this one is idle longest
         time.sleep(1.0)
+        # they have asked too: one that has asked nothing would go first
         with connect(server.port) as second:
+            second.sendall(b"/large.png\r\n")
             time.sleep(0.5)
             with connect(server.port) as third:
+                third.sendall(b"/large.png\r\n")
                 time.sleep(1.3)
                 logs.expect("lines while the others wait", [request.selector for request in logged(path)], [b"/large.png"])
                 logs.expect("clients that wait", [is_open(deaf), is_open(second), is_open(third)], [False, True, True])

@@ -230,7 +230,7 @@ def check_completion(test, machine):
     test.expect("any file for the list", completed(file, place, "hole", "serve", "hole.toml", "--list-found", "l"), ["log.txt"])
     for command in ("serve", "check"):
         test.expect(f"{command}: any file for aliases", completed(file, place, "hole", command, "hole.toml", "--aliases", "l"), ["log.txt"])
-    for option in ("--requests", "--fetch-timeout", "--fetch-pause"):
+    for option in ("--requests", "--clients-per-address", "--fetch-timeout", "--fetch-pause"):
         test.expect(f"no file for the number of {option}", completed(file, place, "hole", "serve", "hole.toml", option, ""), [])
 
 
@@ -297,7 +297,10 @@ def check_owner(test, machine, package):
     test.expect("the settings stay", machine.text("etc/hole/hole.toml").endswith("# my own\n"), True)
     stayed = sorted([*(file for file in first_site() if file != "first-steps.txt"), "own.txt"])
     test.expect("the site stays", files_below(machine.root / "srv/gopher"), stayed)
+    (machine.root / "srv/gopher/upload/empty").mkdir(parents=True)
     machine.dpkg("--purge", "hole")
+    folders = sorted(path.name for path in (machine.root / "srv/gopher").rglob("*") if path.is_dir())
+    test.expect("a purge leaves the owner's folders, and none of the first site", folders, ["empty", "upload"])
     test.expect("a purge leaves the owner's files", files_below(machine.root / "srv/gopher"), [".menu", "own.txt"])
 
 

@@ -43,6 +43,7 @@ BAD_ARGUMENTS = [
     *((("serve", "s.toml", f"--crawl-memory={word}"), "--crawl-memory") for word in NO_BYTES),
     *((("serve", "s.toml", f"--fetch-timeout={word}"), "--fetch-timeout") for word in ("", "86401", "-1", "1.5", "1m")),
     *((("serve", "s.toml", f"--fetch-pause={word}"), "--fetch-pause") for word in ("", "3600001", "-1", "0.5", "1s")),
+    *((("serve", "s.toml", f"--clients-per-address={word}"), "--clients-per-address") for word in ("", "0", "1000001", "-1", "1.5")),
     (("serve", "s.toml", "--list-found"), "--list-found"),
 ]
 # Words that show a text, and its parts.

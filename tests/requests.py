@@ -1,6 +1,6 @@
 #!/usr/bin/env python3
-"""Serves folders that were worked out by hand, and folders that are drawn; asks lines that are drawn, and compares each reply
-with the plain model of models/site_model.py.
+"""Serves folders that were worked out by hand, the largest, and folders that are drawn; asks lines that are drawn, and compares
+each reply with the plain model of models/site_model.py.
 
     tests/requests.py [--lines N] [--seed S] [PROGRAM]
 
@@ -17,6 +17,8 @@ from running.server import HOST, MOST_SHOWN, ask, ask_all, ask_whole, free_port,
 from models.site_model import Site
 
 LINES_OF_A_SITE = 50
+# How many names a folder may have beside a file in the root, since root, folders and files are at most 4,096.
+MOST_NAMES = 4_093
 # Folders by their files, each with lines and their replies; WHERE stands for the host and port, between TABs, and CR LF.
 ROOT_MENU = b"7Search\t/searchWHERE0a.txt\t/a.txtWHERE.\r\n"
 WELCOME = b"iWelcome\tWHERE0Read\t/a.txtWHERE1Far\t\tfar.example\t70\r\n.\r\n"
@@ -43,6 +45,18 @@ def check_worked(test):
             for line, reply in asked:
                 test.expect(f"worked folder: {line[:40]!r}", ask(server.port, line, "localhost"), reply.replace(b"WHERE", where))
             test.expect("the end of a worked folder", server.end()[1:], (b"", 0))
+
+
+def check_most_names(test):
+    """The largest folder is listed whole, and the files of it are served."""
+    files = {"a.txt": b"moon\n", **{f"large/{number:04}.txt": b"%d\n" % number for number in range(MOST_NAMES)}}
+    with test.serving(test.site(files), "--requests", 3) as server:
+        where = f"\t{HOST}\t{server.port}\r\n".encode()
+        names = [b"%04d.txt" % number for number in range(MOST_NAMES)]
+        listing = b"".join(b"0%s\t/large/%s%s" % (name, name, where) for name in names) + b".\r\n"
+        test.expect("the listing of the largest folder", ask(server.port, b"/large\r\n"), listing)
+        for name in (names[0], names[-1]):
+            test.expect("a file of the largest folder", ask(server.port, b"/large/%s\r\n" % name), b"%d\r\n.\r\n" % int(name[:4]))
 
 
 def drawn_settings(draw, site):
@@ -103,4 +117,4 @@ def check_drawn(test):
 
 
 if __name__ == "__main__":
-    run_test("requests", __doc__, check_worked, check_drawn, lines=500, seed="hole")
+    run_test("requests", __doc__, check_worked, check_most_names, check_drawn, lines=500, seed="hole")

@@ -31,8 +31,8 @@ COUNTS = re.compile(r"(?m)^(?:.*: )?(\d+) passed, (\d+) failed$")
 OF_UNITTEST = re.compile(r"(?m)^Ran (\d+) tests? in [\d.]+s$")
 FAILED_OF_UNITTEST = re.compile(r"(?m)^FAILED \((.*)\)$")
 AT_ONCE, PROCESSORS_ALONE = 2, 2
-# files of tests/ that are no tests of the gate: this one, and one that wants clients that a machine may lack
-BY_HAND = ("run_all", "clients")
+# files of tests/ that are no tests of the gate: this one, one that wants clients that a machine may lack, and one of an hour
+BY_HAND = ("run_all", "clients", "soak")
 # tools that are tests too
 CHECKS = ("check_links", "clauses")
 
@@ -72,6 +72,7 @@ TESTS = (
     Test("tests/requests.py", is_quick=True),
     Test("tests/survey.py", is_quick=True),
     Test("tests/cutting.py"),
+    Test("tests/limits.py", is_alone=True),
     Test("tests/listen.py"),
     Test("tests/package.py"),
     Test("tests/refusals.py"),

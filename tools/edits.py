@@ -16,8 +16,9 @@ crates/CRATE/wrong-bodies/FILE.edit has the wrong bodies of src/FILE.rt, one par
   which `rt ci` tries too.
 - `holds` is what every body that meets the contract makes true. Several such lines must hold together. `given` lines come before it:
   statements, or the heads of `if`s inside of which it stands. They see what the file sees, and `alloc: Global`. In
-  crates/CRATE/wrong-bodies/setup.txt stand what they share (under `== items FILE`), and for a line `case: NAME` other arguments: the
-  head of the function (`== case NAME`), and how the program calls it (`== call NAME`).
+  crates/CRATE/wrong-bodies/setup.txt stand what they share (under `== items FILE`), lemmas that a function may name as
+  `#[tactic(auto, using(crate::proofs::FILE::LEMMA))]` (under `== proofs proofs/FILE.antt`), and for a line `case: NAME` other
+  arguments: the head of the function (`== case NAME`), and how the program calls it (`== call NAME`).
 - `told` says in place of `holds` why none can be had. `open` stands beside `holds` and says what is missing. Neither edit is judged,
   nor counts. `breaks` is for the reader: the clause that the body breaks.
 - A paragraph without an edit is a worked row: its `holds` is proved and run.
@@ -37,7 +38,7 @@ from functions import module_of, names_in, pieces
 WORDS = ("name", "function", "old", "new", "must-fail", "case", "given", "holds", "told", "open", "breaks")
 DEFAULT_CASE = ("fn NAME(alloc: std::alloc::Global) -> Option<bool> {\nHOLDS\n    None\n}", "NAME(rt.alloc())")
 STRUCT = re.compile(r"(?ms)^(?:pub(?:\(\w+\))? )?struct \w[^;{]*\{\n.*?^\}\n")
-SECTION = re.compile(r"(?m)^== (items|case|call) (\S+)\n")
+SECTION = re.compile(r"(?m)^== (items|proofs|case|call) (\S+)\n")
 
 
 class BadEdit(Exception):
@@ -165,12 +166,12 @@ def without_entry(root, crate, found):
 
 
 def setup_of(root, crate):
-    """The items that witnesses of a crate use, by source file, and its cases: a function, and how a test calls it."""
+    """The items that witnesses of a crate use, by file, and its cases: a function, and how a test calls it."""
     items, functions, calls = {}, {}, {}
     path = root / "crates" / crate / "wrong-bodies" / "setup.txt"
     parts = SECTION.split(path.read_text())[1:] if path.is_file() else []
     for kind, name, text in zip(parts[::3], parts[1::3], parts[2::3]):
-        {"items": items, "case": functions, "call": calls}[kind][name] = text.strip()
+        {"items": items, "proofs": items, "case": functions, "call": calls}[kind][name] = text.strip()
     return items, {"": DEFAULT_CASE, **{name: (text, calls[name]) for name, text in functions.items()}}
 
 

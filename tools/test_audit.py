@@ -17,8 +17,9 @@ PRINTED = {
     ),
     "tries": (),
     "one-catalogue": (),
-    "requests": ("const MAX_LINE: usize = 1_024;",),
+    "requests": ("const MAX_LINE: usize = 1_024;", "pub record ReceivesPrefix"),
     "closure": ("pub data IsReachable", "dropped opening events ="),
+    "fetched": ("pub record Round", "(page ≡ page_of scope place bytes)", "pub data Leads"),
 }
 
 

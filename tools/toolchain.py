@@ -15,13 +15,13 @@ def kit():
 
 
 def words_of_check(folder, functions):
-    """The words of a check of some functions of the crate in a folder, which also says what no call can meet."""
+    """The words of a check of some functions of the crate in a folder, which takes what has a hole for its proof as proved."""
     sys.path.insert(0, str(kit() / "bin"))
     import rtlib
 
     only = [word for function in functions for word in ("--only", function)]
     crate = next(it for it in rtlib.crates_below(str(folder.parent.parent)) if it.name == folder.name)
-    return [rtlib.RATTLE, "check", *crate.words(["--jobs", "1", "--empty-contracts", *only], keeps=False)]
+    return [rtlib.RATTLE, "check", *crate.words(["--jobs", "1", "--allow-holes", "--short-goals", *only], keeps=False)]
 
 
 def is_up_to_date(root, crate, below):

@@ -13,9 +13,13 @@ proof and a run both succeed:
 So with the wrong body, a function that EXPR calls, or one that this calls, breaks its contract. The prover doesn't see wrong bodies:
 it could refuse a right one, because its proof was written for another body.
 
-Each crate takes one check, of a copy with all witnesses, and one program, built without proofs, in which each function has its own
-body and all wrong ones, and a function in C says which of them runs. Functions that witnesses share, in setup.txt, are proved in the
-same check: if one isn't, no witness that calls it is. Nor is one if what its case requires can't all hold. Also judged are:
+Each crate takes one check, of a copy with all witnesses. In the copy a hole stands for the proof of each function of the crate: `rt
+ci` proves them, and a check that did so again would take most of its time for it. A witness is proved if it rests on such holes
+alone. Functions that witnesses share, in setup.txt, are proved in the same check: if one isn't, no witness that calls it is. Nor is
+one if what its case requires can't all hold: then a function that requires the same and says `false` is proved too.
+
+Each crate also takes one program, built without proofs, in which each function has its own body and all wrong ones, and a function
+in C says which of them runs. Also judged are:
 
 - Worked rows, which are an EXPR without an edit: proved and run.
 - Right bodies, which are edits that change no meaning: each EXPR of their function has to stay true.
@@ -31,7 +35,6 @@ lib` if one is missing or older than its sources. The line before the last count
 M failed'.
 """
 import argparse
-import itertools
 import os
 import pathlib
 import re
@@ -42,14 +45,16 @@ import tempfile
 from concurrent.futures import ThreadPoolExecutor
 
 from edits import RightBody, head_and_body, read_edits, setup_of
-from functions import module_of, pieces
+from functions import module_of, names_in, pieces
 from kept import Kept
 from toolchain import is_up_to_date, words_of_check
 
 ROOT = pathlib.Path(os.environ.get("ROOT") or pathlib.Path(__file__).resolve().parent.parent)
 MEMORY_OF_A_CHECK = 5 << 30
-# What the check of a single function says beside its goals: what it calls isn't checked again.
-NO_GOAL = re.compile(r"^it calls |^it passes the block ")
+# What no function can prove that can be called.
+NEVER = "    let holds = false; prove!(holds);"
+TYPE = re.compile(r"(?m)^(?:pub(?:\(\w+\))? )?(?:struct|enum) (\w+)")
+TRAIT = re.compile(r"(?:pub(?:\(\w+\))? )?trait ")
 IMPL = re.compile(r"impl(?P<generics><(?:[^<>]|<[^<>]*>)*>)? (?:(?P<of_trait>.*) for )?(?P<of_type>\w+)")
 SWITCH = """
 unsafe extern "C" {
@@ -189,50 +194,115 @@ class Source:
 
 def unproved(crate, edits, items, cases, below):
     """Why the witnesses of some edits aren't proved, by edit. Those that the prover can't read are left out of a second check."""
-    said, blamed = checked(crate, edits, items, cases, below)
+    said, blamed, holes = checked(crate, edits, items, cases, below)
     left = [edit for edit in edits if edit not in blamed]
     if blamed and left:
         return {**blamed, **unproved(crate, left, items, cases, below)}
-    return {**blamed, **{edit: why for edit in left if (why := lacking(crate, edit.path(), said))}}
+    empty = [case for case, path in controls_of(edits, cases).items() if not lacking(crate, path, said, holes)]
+    blamed.update({edit: "what it requires can't all hold" for edit in left if edit.case in empty})
+    return {**{edit: why for edit in left if (why := lacking(crate, edit.path(), said, holes))}, **blamed}
+
+
+def add_items(source, items):
+    """Adds to a copy what witnesses share: items at the ends of source files, and files of lemmas."""
+    for file, text in items.items():
+        if file.endswith(".antt"):
+            root = source.folder / "proofs" / "Lib.antt"
+            root.parent.mkdir(exist_ok=True)
+            (source.folder / file).write_text(text + "\n")
+            root.write_text(f"{root.read_text() if root.is_file() else ''}pub mod {pathlib.PurePath(file).stem}\n")
+        else:
+            source.add(file, text)
+
+
+def controls_of(edits, cases):
+    """For each case of these edits that requires something the path of its control: a function that requires the same and says what
+    is never true. If it is proved, the case can't be."""
+    with_requires = {edit.case: edit for edit in reversed(edits) if re.search(r"\brequires\b", cases[edit.case][0])}
+    return {case: "::".join([*module_of(edit.file), f"control_{case}"]) for case, edit in with_requires.items()}
+
+
+def leave_out_proofs(source, crate):
+    """Leaves out the body of each function of a copy, and puts a hole in the place of its proof. Gives the names of the holes, which
+    witnesses may rest on: they are proved from what these functions ensure, and nothing is proved anew."""
+    holes = set()
+    files = {str(file.relative_to(source.folder)): file.read_text() for file in sorted((source.folder / "src").rglob("*.rt"))}
+    cut = {file: pieces(text) for file, text in files.items()}
+    for file, at, path in bodies_of(files):
+        cut[file][at] = without_body(cut[file][at])
+        parts, name = path.split("::"), path.split("::")[-1]
+        folder = source.folder.joinpath("proofs", *parts)
+        folder.mkdir(parents=True, exist_ok=True)
+        for proof in ("Invariants.antt", "Answers.antt"):
+            (folder / proof).unlink(missing_ok=True)
+        statement = f"Rattle.{crate}.proofs.{'.'.join(parts)}.Statement"
+        (folder / "Proof.antt").write_text(f"use {statement}.{{statement}}\n\npub {name}_spec : {{M : Type 1}} → statement M\n{name}_spec = ?\n")
+        holes.add(f"Rattle.{crate}.proofs.{'.'.join(parts)}.Proof.{name}_spec")
+    source.texts.update({file: "".join(parts) for file, parts in cut.items()})
+    return holes
+
+
+def without_body(function):
+    """A function without what it does, unless constants are made by it."""
+    indent, (head, _body) = re.match(" *", function)[0], head_and_body(function)
+    is_const = re.match(r" *(?:pub(?:\(\w+\))? )?const ", function)
+    return function if is_const else f"{head}{indent}    unreachable!()\n{indent}}}\n"
 
 
 def functions_of(items):
-    """The paths of the functions that witnesses share, as a check prints them: a trait's method has its type and its trait. Those of
-    tests alone, with which a program calls witnesses, aren't checked."""
-    found = []
-    for file, text in items.items():
-        owner = []
-        for before, line in itertools.pairwise(["", *text.splitlines()]):
-            if head := IMPL.match(line):
-                own = re.findall(r"[<,] *(\w+)", head["generics"] or "")
-                words = [word for word in re.findall(r"(?<![\w'])\w+(?!\w*::)", head["of_trait"] or "") if word not in own]
-                owner = [head["of_type"] + "".join(word[0].upper() + word[1:] for word in words)]
-            elif line == "}":
-                owner = []
-            elif before != "#[cfg(test)]" and (name := re.match(r" *(?:pub(?:\(\w+\))? )?fn (\w+)", line)):
-                found.append("::".join([*module_of(file), *owner, name[1]]))
+    """The paths of the functions of these sources."""
+    return [path for _file, _at, path in bodies_of(items)]
+
+
+def bodies_of(items):
+    """The functions of these sources that have a body: the file of each, the index of its piece of this, and its path, as a check
+    prints it: a method has the module of its type, and a trait's method its type and its trait. Those of tests alone, with which a
+    program calls witnesses, aren't checked, those of a cycle are proved together, and how a value is dropped is always proved."""
+    sources = {file: text for file, text in items.items() if file.endswith(".rt")}
+    found, homes = [], {name: module_of(file) for file, text in sources.items() for name in TYPE.findall(text)}
+    for file, text in sources.items():
+        home, owner, parts = module_of(file), [], pieces(text + "\n")
+        for at, (before, function) in enumerate(zip(parts[::2], parts[1::2])):
+            # The head of an impl may take two lines, and an impl without methods ends in its line.
+            for line in re.sub(r"\n +for ", " for ", before).splitlines():
+                if (head := IMPL.match(line)) and not line.endswith("{}"):
+                    own = re.findall(r"[<,] *(\w+)", head["generics"] or "")
+                    words = [word for word in re.findall(r"(?<![\w'])\w+(?!\w*::)", head["of_trait"] or "") if word not in own]
+                    home = module_of(file) if head["of_trait"] else homes.get(head["of_type"], module_of(file))
+                    owner = [head["of_type"] + "".join(word[0].upper() + word[1:] for word in words)] if words != ["Drop"] else None
+                elif line == "}":
+                    home, owner = module_of(file), []
+                elif TRAIT.match(line):
+                    owner = None
+            last = before.rstrip().splitlines()[-1:] or [""]
+            if owner is not None and not re.search(r"#\[(cfg\(test\)|test|cycle\(\w+\))\]$", last[0]):
+                found.append((file, 2 * at + 1, "::".join([*home, *owner, names_in(function)[0]])))
     return found
 
 
 def checked(crate, edits, items, cases, below):
-    """What a check of the witnesses of these edits says, and the errors in their text, by edit."""
+    """What a check of the witnesses of these edits says, the errors in their text, by edit, and the names of holes that stand for
+    the proofs of the crate's functions."""
     with tempfile.TemporaryDirectory(prefix="wrong-bodies-") as room:
         source = Source(copy_of(crate, below, pathlib.Path(room)))
+        holes = leave_out_proofs(source, crate)
         source.add(root_of(source), MEMORY)
-        for file, text in items.items():
-            source.add(file, text)
+        add_items(source, items)
         asserted = lambda parts: [f"let holds = {part}; prove!(holds);" for part in parts]
         for edit in edits:
             source.add(edit.file, edit.witness(asserted, cases), edit)
+        controls, homes = controls_of(edits, cases), {edit.case: edit.file for edit in reversed(edits)}
+        for case in controls:
+            source.add(homes[case], cases[case][0].replace("NAME", f"control_{case}").replace("HOLDS", NEVER))
         source.write()
         shared = functions_of(items)
-        said = run(*words_of_check(source.folder, [*shared, *(edit.path() for edit in edits)]), folder=source.folder)
+        said = run(*words_of_check(source.folder, [*shared, *controls.values(), *(edit.path() for edit in edits)]), folder=source.folder)
         blamed = source.blamed(said)
         for path in shared:
-            if why := lacking(crate, path, said):
+            if why := lacking(crate, path, said, holes):
                 uses = re.compile(rf"\b({'|'.join(callers_of(path.split('::')[-1], items))})\b")
                 blamed = {**{edit: f"{path} isn't proved: {why}" for edit in edits if uses.search(edit.witness(asserted, cases))}, **blamed}
-        return said, blamed
+        return said, blamed, holes
 
 
 def callers_of(name, items):
@@ -245,15 +315,24 @@ def callers_of(name, items):
     return found
 
 
-def lacking(crate, path, said):
-    """What a function lacks, as a check said; nothing if it is proved, but for what it calls."""
-    if f"no call of `{crate}::{path}` can meet its contract" in said:
-        return "what it requires can't all hold"
-    found = re.search(rf"(?m)^fn {crate}::{re.escape(path)}: (proved|not proved|no proof: .*?|could not tell.*?)(?:, may wait)?$", said)
+def lacking(crate, path, said, holes):
+    """What a function lacks, as a check said; nothing if it is proved, given what the functions with these holes ensure."""
+    found = re.search(rf"(?m)^fn {crate}::{re.escape(path)}: (.*?)(?:, may wait)?$", said)
     if not found:
         return f"the check said nothing of it: {said[-1500:]}"
-    goals = [it for it in found[1].removeprefix("no proof: ").split("; ") if not NO_GOAL.search(it)]
-    return "" if found[1] == "proved" else "; ".join(goals)
+    is_proved = found[1] == "no holes" or rests_on(f"{crate}::{path}", said, holes)
+    return "" if is_proved else found[1]
+
+
+def rests_on(function, said, holes):
+    """Whether a check said that a function depends on some of these holes alone. It names them, or another function that depends on
+    the same."""
+    line = re.search(rf"(?m)^fn {re.escape(function)}: depends on a hole in (.*?)(?:, may wait)?$", said)
+    if not line:
+        return False
+    others = re.findall(r"the same \d+ declarations as `([^`]+)`", line[1])
+    named = re.findall(r"`([^`]+)`", re.sub(r"the same \d+ declarations as `[^`]+`", "", line[1]))
+    return bool(named or others) and holes.issuperset(named) and all(rests_on(other, said, holes) for other in others)
 
 
 def switched(source, edits):
@@ -325,8 +404,7 @@ def write_program(source, edits, rights, items, cases):
     source.add(root, SWITCH)
     (source.folder / "c").mkdir()
     (source.folder / "c" / "wrong_body.c").write_text(SWITCH_IN_C)
-    for file, text in items.items():
-        source.add(file, text)
+    add_items(source, items)
     tests = {}
     for edit in edits:
         returned = lambda parts: [f"return Some({' && '.join(f'({it})' for it in parts)});"]

@@ -2,7 +2,8 @@
 those that are merged from four, at once or once a fifth follows, and the largest; with words that every other page
 has, that one page has, and that stand in a page about as often as a byte counts, and far more often; with long words
 that differ late; of pages with so many words that their segment is made otherwise; and of large pages among small ones.
-Then scripts of what is as large as it may be: a page, the places of a crawl, its pages, and the terms of a search.
+Then scripts of what is as large as it may be: a page, the places of a crawl, its pages, the terms of a search, the words of
+a text, the lines of a menu, and the times that a word stands in pages.
 """
 import itertools
 import random
@@ -157,15 +158,40 @@ def crawl_of_many_pages(count=25_000, every=1_000):
 
 
 def crawl_of_many_terms():
-    """Searches of 512 terms, the most that a text has room for, and of 170 different ones, over as many pages as two segments
-    have, and some more."""
-    questions = (b"m " * 512, b"b a " * 256, b"p*" + b" m" * 511, b" or ".join(short_names(170)))
+    """Searches of 512 terms, the most that a text has room for, and of 170 and 353 different ones, over as many pages as two
+    segments have, and some more."""
+    different = (b" or ".join(short_names(170)), b" ".join(short_names(353)))
+    questions = (b"m " * 512, b"b a " * 256, b"p*" + b" m" * 511, *different)
     texts = (b"m a b "[: 2 + number % 5] + b"p%d" % number for number in range(130))
     return crawl(numbers(130), texts, lambda number: asked(questions, ()) if number in (63, 64, 128, 129) else ())
 
 
+def crawl_of_a_long_text():
+    """A text of 520,000 words, about as many as a reply has room for, all of them one word."""
+    return crawl([b"/text"], [b"a " * 520_000], lambda number: asked((b"a", b"a*"), (b"a",)))
+
+
+def crawl_of_many_lines():
+    """A menu of as many lines as a script has room for."""
+    yield from (b"allow\th\t7\t", b"seed\t1\th\t7\t", b"start\t1", b"claim", b"found\t0\t1\th\t7\t")
+    yield from [b"|a"] * 349_000
+    yield from asked((b"a", b"a*"), (b"a",))
+    yield b"status"
+
+
+def crawl_of_frequent_words():
+    """Pages of which more than a search gives have one word 300 times, before and after they are merged."""
+    return crawl(numbers(130), [b"lark " * 300] * 130, lambda number: asked((b"lark", b"l*"), ()) if number in (54, 63, 129) else ())
+
+
+LARGEST = (
+    crawl_of_a_large_page, crawl_of_most_places, crawl_of_many_pages, crawl_of_many_terms, crawl_of_a_long_text,
+    crawl_of_many_lines, crawl_of_frequent_words,
+)
+
+
 def scripts_of_limits():
-    for crawl in (crawl_of_a_large_page, crawl_of_most_places, crawl_of_many_pages, crawl_of_many_terms):
+    for crawl in LARGEST:
         script = b"\n".join(crawl())
         assert len(script) <= 1_048_576, crawl.__name__
         yield script

@@ -5,6 +5,7 @@ use Rattle.gopher_catalogue.specs.declared.event.EventData.{EventData}
 use Rattle.gopher_catalogue.specs.declared.event.EventData.TheVariants.{Claimed}
 use Rattle.gopher_catalogue.specs.Step.{TurnData, Take, Idle, Finished, after_turn}
 use Rattle.gopher_catalogue.proofs.LegalSizes.{length-record_fits}
+use Rattle.gopher_crew.specs.Admitted.{EventRule}
 use Rattle.gopher_crew.specs.Publication.{PublicationData, KeepsRecord}
 use Rattle.gopher_crew.specs.Kept.{rise_of}
 use Rattle.gopher_crew.proofs.Prefixes.{prefix_self, prefix_push, prefix_trans}
@@ -21,8 +22,8 @@ turn_counts record_ Idle = omega arith
 turn_counts record_ Finished = omega arith
 
 -- the count of a record's events is small
-pub few_events : (record_ : List EventData) (publication : PublicationData) (count : ℕ) → KeepsRecord record_ publication count → count < 2 ^ 63
-few_events record_ publication count kept = omega (arith, length-record_fits record_ kept.legal, kept.counted)
+pub few_events : (admits : EventRule) (record_ : List EventData) (publication : PublicationData) (count : ℕ) → KeepsRecord admits record_ publication count → count < 2 ^ 63
+few_events admits record_ publication count kept = omega (arith, length-record_fits record_ kept.legal, kept.counted)
 
 -- what was entered begins the record after a turn
 pub turn_keeps : (prefix record_ : List EventData) (turn : TurnData) → IsPrefix prefix record_ → IsPrefix prefix (after_turn record_ turn)

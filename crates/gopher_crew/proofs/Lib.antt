@@ -7,3 +7,6 @@ pub mod Joining
 pub mod Versions
 pub mod Pairing
 pub mod PublicationLemmas
+pub mod Admitting
+pub mod Agreeing
+pub mod Rounding

@@ -51,8 +51,8 @@ AllHaveSeen record_ count passes = passes ≡ replicate count (has_seen record_)
 -- far, the others none
 abbrev pub shares_at : List EventData → ℕ → List ShareData
 shares_at record_ shares =
-    record { events = length record_ - 1; parts = 17 - shares; seen = record_ }
-    ∷ replicate (shares - 1) (record { events = 0; parts = 1; seen = record_ })
+    record { events = length record_ - 1; parts = 17 - shares; seen = record_; missed = 0 }
+    ∷ replicate (shares - 1) (record { events = 0; parts = 1; seen = record_; missed = 0 })
 
 -- the number of events that these shares count, and the number of their parts
 abbrev pub events_of : List ShareData → ℕ

@@ -1,3 +1,4 @@
+pub mod Admitted
 pub mod History
 pub mod Version
 pub mod MergeJob
@@ -6,6 +7,7 @@ pub mod Publication
 pub mod Fault
 pub mod Kept
 pub mod Desk
+pub mod Rounds
 pub mod Work
 pub mod Pass
 pub mod Share

@@ -1,5 +1,5 @@
 -- A record and what is published of it: the version of a writer, and the updates that wait.
-use Rattle.std.specs.Prelude.{ℕ, ◌≡◌, ◌+◌, Bool, List, [], drop, length}
+use Rattle.std.specs.Prelude.{ℕ, ◌≡◌, ◌+◌, ◌<◌, ◌⊎◌, Bool, true, false, List, [], drop, length, Option, Some, None}
 use Rattle.left_right.specs.declared.Absorb.{Ghosts}
 use Rattle.left_right.specs.declared.writer.Writer.{Writer}
 use Rattle.logbook.specs.Pages.{Book}
@@ -9,18 +9,55 @@ use Rattle.gopher_crew.specs.declared.publication.update.Update.{Update}
 use Rattle.gopher_crew.specs.History.{RecordPrefixData}
 use Rattle.gopher_crew.specs.Version.{VersionData, IsSeenVersion, FollowsVersion, CatchesUp, Follows, version_data, last_of}
 use Rattle.gopher_catalogue.specs.Legal.{IsLegal}
+use Rattle.gopher_crew.specs.Admitted.{EventRule, AllAdmitted}
+use Rattle.gopher_text.specs.Watched.{CountsFailure}
+use Rattle.gopher_crew.specs.declared.publication.Published.{Published}
 
--- a record, and the prefix of it that is published
+-- a record, the prefix of it that is published, and how many publications failed, counted up to
+-- 2^64 - 1
 pub record PublicationData : Type 0 where
   pub events : List EventData
   pub published : List EventData
+  pub failed : ℕ
 
--- a legal record, which was entered, and the count of its events after the first
-pub record KeepsRecord (record_ : List EventData) (publication : PublicationData) (count : ℕ)
-    : Type 0 where
+-- the whole record is published, unless a publication failed
+abbrev pub IsShown : PublicationData → Type 0
+IsShown it = (it.published ≡ it.events) ⊎ (0 < it.failed)
+
+-- the failed publications before and after one: one more if it failed
+abbrev pub CountsPublication : Bool → ℕ → ℕ → Type 0
+CountsPublication true before after = after ≡ before
+CountsPublication false before after = CountsFailure before after
+
+-- the failed publications before and after a call: one more if it returns no note, and at most one
+-- more if it returns one
+abbrev pub CountsMissed : Option (List EventData) → ℕ → ℕ → Type 0
+CountsMissed (Some note) before after = (after ≡ before) ⊎ CountsFailure before after
+CountsMissed None before after = CountsFailure before after
+
+-- how much of the record is published, and how many publications failed
+abbrev pub published_of : PublicationData → Published
+published_of it = record {
+  events = length it.events;
+  published = length it.published;
+  failed = it.failed;
+}
+
+-- how much of a legal record is published: all of it, unless a publication failed
+pub record IsPublishedOf (it : Published) (record_ : List EventData) : Type 0 where
+  pub events : it.events ≡ length record_
+  pub whole : (it.published ≡ it.events) ⊎ (0 < it.failed)
   pub legal : IsLegal record_
+
+-- a legal record of admitted outcomes, which was entered, and the count of its events after the
+-- first. All of it is published, unless a publication failed
+pub record KeepsRecord (admits : EventRule) (record_ : List EventData)
+    (publication : PublicationData) (count : ℕ) : Type 0 where
+  pub legal : IsLegal record_
+  pub admitted : AllAdmitted admits record_
   pub entered : publication.events ≡ record_
   pub counted : length record_ ≡ count + 1
+  pub shown : IsShown publication
 
 -- the version of these pages and this record is one of this history, and its record begins with
 -- that of the version before

@@ -4,9 +4,11 @@ ghost use Rattle.std.specs.Arc.{arc_value};
 ghost use Rattle.std.specs.Prelude.{◌≡◌, ◌+◌, ◌≤◌, [], true, vec_capacity, IfOk, IfErr, IfSome, OnOk, OnErr};
 ghost use mathlib.Core.List.{IsPrefix};
 ghost use Rattle.gopher_catalogue.specs.Turn.{turn_data};
-ghost use Rattle.gopher_crew.specs.Share.{Rises, RisesBy};
+ghost use Rattle.gopher_catalogue.specs.declared.event.EventData.TheVariants.{Found, Failed};
+ghost use Rattle.gopher_crew.specs.Admitted.{AllAdmitted, MayAdd};
+ghost use Rattle.gopher_crew.specs.Share.{CountsReply, Rises, RisesBy};
 ghost use Rattle.gopher_crew.specs.Desk.{are_counts, shares_at, AllHaveSeen, ComesBack, IsBlankOf, IsDeskFault, HasAll};
-ghost use Rattle.gopher_crew.specs.Publication.{ShowsRecord};
+ghost use Rattle.gopher_crew.specs.Publication.{IsPublishedOf, ShowsRecord};
 ghost use Rattle.gopher_crew.specs.Kept.{rise_of, Later, Claims, Finds, Fails, RefusesFind, RefusesFailure, LetsClaim, IsNotIdle, IsOpeningOf, IsStatusOf, IsStatusAfter, IsRecordAfter};
 
 pub mod blank;
@@ -16,7 +18,7 @@ pub mod opening;
 pub mod refusals;
 pub mod share;
 
-use crate::crew::Crew;
+use crate::crew::{Admits, Crew};
 use crate::desk::blank::Blank;
 use crate::desk::kept::{Kept, events_after_first};
 use crate::desk::opening::{cut, writer_with_passes};
@@ -26,7 +28,7 @@ use crate::fault::DeskFault;
 use crate::pass::Pass;
 use crate::publication::note::Note;
 use crate::publication::record_prefix::RecordPrefix;
-use crate::publication::{Publication, VersionWriter};
+use crate::publication::{Publication, Published, VersionWriter};
 use crate::working::memory::PageMemory;
 use gopher_catalogue::{
     Added, Catalogue, Event, FailRefused, FoundRefused, Opening, Status, Turn, Why,
@@ -34,21 +36,21 @@ use gopher_catalogue::{
 use gopher_item::NoMemory;
 use gopher_page::Page;
 use std::alloc::Global;
-use std::marker::Model;
+use std::marker::{Brand, Model};
 use std::sync::{Arc, Condvar, Mutex, MutexGuard, Wait};
 
 /// One catalogue that several workers crawl together while passes search its snapshots. Contracts
 /// see the record with which it was opened.
 #[derive(Drop)]
-pub struct Desk<C: Crew, R: Wait + Drop> {
+pub struct Desk<C: Crew, R: Wait + Drop, A: Admits = Brand> {
     pub(crate) opened: RecordPrefix,
     pub(crate) opening: Arc<Opening>,
-    pub(crate) kept: Mutex<Kept<C, R>>,
+    pub(crate) kept: Mutex<Kept<C, R, A>>,
     pub(crate) outcomes: Condvar,
     pub(crate) memory: PageMemory,
 }
 
-impl<C: Crew, R: Wait + Drop> Model for Desk<C, R> {
+impl<C: Crew, R: Wait + Drop, A: Admits> Model for Desk<C, R, A> {
     ghost use Rattle.std.specs.Arc.{arc_value};
     ghost use Rattle.std.specs.Prelude.{◌≡◌, List};
     ghost use Rattle.gopher_catalogue.specs.declared.event.EventData.{EventData};
@@ -70,7 +72,7 @@ fn are_counts(passes: u32, shares: u32) -> bool
 
 // Makes the desk over a catalogue whose record was entered and is published. Appends its shares to
 // the list.
-fn start<C: Crew, R: Wait + Drop>(
+fn start<C: Crew, R: Wait + Drop, A: Admits>(
     alloc: Global,
     rt: R,
     catalogue: Catalogue,
@@ -79,11 +81,12 @@ fn start<C: Crew, R: Wait + Drop>(
     writer: VersionWriter<C>,
     shares: u32,
     list: &mut Vec<Share<C>>,
-) -> Desk<C, R>
+) -> Desk<C, R, A>
     requires blank { IsBlankOf C.name C.parts C.history blank }
     requires begun { blank.begun ≡ catalogue }
     requires opening { IsOpeningOf catalogue (arc_value opening) }
     requires shown { ShowsRecord C.history catalogue writer }
+    requires admitted { AllAdmitted A.admits catalogue }
     requires counts { (1 ≤ shares) × (shares ≤ 16) }
     requires empty { list.old.items ≡ [] }
     requires room { shares ≤ vec_capacity list.old }
@@ -111,7 +114,7 @@ fn start<C: Crew, R: Wait + Drop>(
     }
 }
 
-impl<C: Crew, R: Wait + Drop> Desk<C, R> {
+impl<C: Crew, R: Wait + Drop, A: Admits> Desk<C, R, A> {
     /// Opens a desk over a catalogue.
     ///
     /// Returns the desk, `passes` passes that have all seen the whole record, and `shares` shares,
@@ -134,9 +137,10 @@ impl<C: Crew, R: Wait + Drop> Desk<C, R> {
         passes: u32,
         shares: u32,
         blank: Blank,
-    ) -> Result<(Desk<C, R>, Vec<Pass<C>>, Vec<Share<C>>), DeskRefused>
+    ) -> Result<(Desk<C, R, A>, Vec<Pass<C>>, Vec<Share<C>>), DeskRefused>
         requires blank { IsBlankOf C.name C.parts C.history blank }
         requires begun { IsPrefix blank.begun catalogue }
+        requires admitted { AllAdmitted A.admits catalogue }
         ensures ok { OnOk result (are_counts passes shares ≡ true) }
         ensures desk { IfOk result (λ opened. opened.0 ≡ catalogue) }
         ensures passes { IfOk result (λ opened. AllHaveSeen catalogue passes opened.1.items) }
@@ -191,11 +195,12 @@ impl<C: Crew, R: Wait + Drop> Desk<C, R> {
     }
 }
 
-impl<C: Crew, R: Wait + Drop> Desk<C, R> {
+impl<C: Crew, R: Wait + Drop, A: Admits> Desk<C, R, A> {
     /// Claims the first waiting place. The share rises by one if there is one.
     ///
     /// The turn is what a claim returns on a legal record that begins with what the share saw. The
-    /// share then has seen the record after it. The note, if there is one, is of that record.
+    /// share then has seen the record after it. The note is of that record. If there is none, the
+    /// record isn't published yet, because memory ran out, and the share counts it (`missed`).
     ///
     /// # Errors
     /// `NoMemory` (90), only if a place waits on the record that the share then has seen.
@@ -206,6 +211,7 @@ impl<C: Crew, R: Wait + Drop> Desk<C, R> {
     ) -> Result<(Turn, Option<Note<C>>), NoMemory>
         ensures turn { IfOk result (λ r. Later share.old.seen (Claims (turn_data r.0) share.new)) }
         ensures noted { IfOk result (λ reply. IfSome reply.1 (λ note. note ≡ share.new.seen)) }
+        ensures missed { CountsReply (λ reply. reply.1) result share.old.missed share.new.missed }
         ensures share { RisesBy (λ it. rise_of (turn_data it.0)) result share.old share.new }
         ensures waits { OnErr result (LetsClaim share.new) }
     {
@@ -214,8 +220,9 @@ impl<C: Crew, R: Wait + Drop> Desk<C, R> {
 
     /// Adds the page of a place that is out. The share rises by one.
     ///
-    /// The share then has seen a legal record that ends with the page. The note, if there is one,
-    /// is of that record.
+    /// The share then has seen a legal record that ends with the page. The note is of that record.
+    /// If there is none, the record isn't published yet, because memory ran out, and the share
+    /// counts it (`missed`).
     ///
     /// # Errors
     /// The first of these that the page has on the record that the share then has seen. The error
@@ -230,8 +237,10 @@ impl<C: Crew, R: Wait + Drop> Desk<C, R> {
         number: u32,
         page: Page,
     ) -> Result<(Added, Option<Note<C>>), FoundRefused>
+        requires { MayAdd A.admits share.old.seen (Found number page) }
         ensures found { IfOk result (λ r. Later share.old.seen (Finds number page r.0 share.new)) }
         ensures noted { IfOk result (λ reply. IfSome reply.1 (λ note. note ≡ share.new.seen)) }
+        ensures missed { CountsReply (λ reply. reply.1) result share.old.missed share.new.missed }
         ensures share { RisesBy (λ _. 1) result share.old share.new }
         ensures refused { IfErr result (λ error. RefusesFind number page error.fault share.new) }
         ensures page_back { IfErr result (λ refused. refused.page ≡ page) }
@@ -243,8 +252,9 @@ impl<C: Crew, R: Wait + Drop> Desk<C, R> {
 
     /// Records that a place that is out couldn't be fetched. The share rises by one.
     ///
-    /// The share then has seen a legal record that ends with the failure. The note, if there is
-    /// one, is of that record.
+    /// The share then has seen a legal record that ends with the failure. The note is of that
+    /// record. If there is none, the record isn't published yet, because memory ran out, and the
+    /// share counts it (`missed`).
     ///
     /// # Errors
     /// `FailRefused` (52): the number isn't out on the record that the share then has seen.
@@ -255,9 +265,11 @@ impl<C: Crew, R: Wait + Drop> Desk<C, R> {
         number: u32,
         why: Why,
     ) -> Result<Option<Note<C>>, FailRefused>
+        requires { MayAdd A.admits share.old.seen (Failed number why) }
         ensures failed { OnOk result (Later share.old.seen (Fails number why share.new)) }
         ensures refused { OnErr result (RefusesFailure number share.new) }
         ensures noted { IfOk result (λ note. IfSome note (λ noted. noted ≡ share.new.seen)) }
+        ensures missed { CountsReply (λ note. note) result share.old.missed share.new.missed }
         ensures share { RisesBy (λ _. 1) result share.old share.new }
     {
         let note = self.kept.lock(rt).fail(share, number, why)?;
@@ -275,7 +287,7 @@ impl<C: Crew, R: Wait + Drop> Desk<C, R> {
     // Merges one run of pages while it holds no lock, if one is due, puts the segment in their
     // place, and publishes it. Returns with the lock. One run for each claim is enough, because
     // fewer runs of pages are merged than places are claimed.
-    fn merge_due<W: Wait>(&self, rt: &W, alloc: Global) -> MutexGuard<'_, Kept<C, R>> {
+    fn merge_due<W: Wait>(&self, rt: &W, alloc: Global) -> MutexGuard<'_, Kept<C, R, A>> {
         let mut kept = self.kept.lock(rt);
         if let Some(mut job) = kept.merge_job() {
             let lock = MutexGuard::unlock(kept);
@@ -345,6 +357,14 @@ impl<C: Crew, R: Wait + Drop> Desk<C, R> {
         self.kept.lock(rt).status_after(&self.opened)
     }
 
+    /// Returns how much of the record is published: all of it, unless a publication ran out of
+    /// memory. The record is legal, and begins with the one that the desk was opened with.
+    pub fn published<W: Wait>(&self, rt: &W) -> Published
+        ensures { Later self.now (IsPublishedOf result) }
+    {
+        self.kept.lock(rt).published_after(&self.opened)
+    }
+
     /// Returns a copy of the record: every event so far, oldest first. Each shares its opening or
     /// its page with the crawl. The record is legal, and begins with the one that the desk was
     /// opened with. Workers wait for the copy, a few milliseconds for 100,000 events.
@@ -362,6 +382,7 @@ impl<C: Crew, R: Wait + Drop> Desk<C, R> {
     pub fn status_for<W: Wait>(&self, rt: &W, share: &mut Share<C>) -> Status
         ensures status { IsStatusOf result share.new.seen }
         ensures share { Rises 0 share.old share.new }
+        ensures missed { share.new.missed ≡ share.old.missed }
     {
         self.kept.lock(rt).status_for(share)
     }

@@ -11,6 +11,8 @@
 //! it in proofs: one list that only grows. It may lag behind the record, hence a second name. A
 //! *crew* (`Crew`) is a type by which contracts name one desk and all that belongs to it. A *blank*
 //! (`Blank`) is what a desk is opened with: a ledger that counts nothing yet, and an empty history.
+//! The *rule* of a desk (`Admits`) says which outcomes a place may have. A caller that adds one
+//! proves that the rule admits it, so each outcome in the record of a closed desk is admitted.
 //!
 //! # The way of a found page
 //!
@@ -23,7 +25,9 @@
 //! those of an index if segments were merged since.
 //!
 //! If a publication runs out of memory, its update waits, and the next publication publishes it
-//! first. So at most one update waits, however often memory runs out.
+//! first. So at most one update waits, however often memory runs out. The desk counts each failed
+//! publication (`Desk::published`). The reply of that call has no note, and its share counts it
+//! (`Share::missed`). So what is published is the whole record if nothing failed.
 //!
 //! A search shares the published `Version` and leaves at once, so a long search doesn't delay a
 //! publication.
@@ -87,13 +91,14 @@ mod pass;
 mod publication;
 mod working;
 
-pub use crew::Crew;
+pub use crew::{Admits, Crew};
 pub use desk::Desk;
 pub use desk::blank::Blank;
 pub use desk::refusals::{CloseRefused, DeskRefused};
 pub use desk::share::Share;
 pub use fault::{DeskFault, SearchFault};
 pub use pass::{Answer, Pass};
+pub use publication::Published;
 pub use publication::note::Note;
 pub use working::crawling::{CrawlRefused, crawl};
 pub use working::fetch::{Calls, Fetch};

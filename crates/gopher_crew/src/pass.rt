@@ -142,6 +142,7 @@ impl<C: Crew> Pass<C> {
     pub fn tell(&self, share: &mut Share<C>)
         ensures told { IsPrefix self.now.told share.new.seen }
         ensures share { Rises 0 share.old share.new }
+        ensures missed { share.new.missed ≡ share.old.missed }
     {
         share.hear(&self.told);
     }

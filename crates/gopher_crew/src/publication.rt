@@ -3,9 +3,9 @@
 ghost use Rattle.std.specs.Prelude.{◌≡◌, ◌≢◌, false, [], IsTrue, map};
 ghost use mathlib.Core.List.{IsPrefix};
 ghost use Rattle.gopher_catalogue.specs.EventOf.{event_data};
-ghost use Rattle.gopher_crew.specs.Share.{Rises};
+ghost use Rattle.gopher_crew.specs.Share.{CountsNote, Rises};
 ghost use Rattle.gopher_crew.specs.Kept.{IsNoted};
-ghost use Rattle.gopher_crew.specs.Publication.{PagesFollow, ShowsRecord, waiting_updates, NextFollows, WriterCatchesUp, WriterFollows};
+ghost use Rattle.gopher_crew.specs.Publication.{CountsMissed, CountsPublication, IsShown, published_of, PagesFollow, ShowsRecord, waiting_updates, NextFollows, WriterCatchesUp, WriterFollows};
 ghost use Rattle.gopher_crew.specs.Version.{version_data, IsVersion};
 
 pub mod entering;
@@ -38,9 +38,20 @@ pub type VersionWriter<C> = Writer<Version, Update, [EventData; 0], Shows<C>>;
 /// A reader of the published versions.
 pub type VersionReader<C> = Reader<Version, [EventData; 0], Shows<C>>;
 
+/// How much of a desk's record is published.
+#[derive(Clone, Copy, Debug, PartialEq, Eq)]
+pub struct Published {
+    /// The number of events in the record.
+    pub events: u32,
+    /// The number of those that are published: all, unless a publication failed.
+    pub published: u32,
+    /// How many publications failed so far, counted up to 2^64 - 1.
+    pub failed: u64,
+}
+
 /// The token of the record that was entered into the history, and the writer that publishes it,
-/// with the runtime by which it waits for readers. Contracts see the events that were entered, and
-/// the published record, a prefix of them.
+/// with the runtime by which it waits for readers. Contracts see the events that were entered, the
+/// published record, a prefix of them, and how many publications failed.
 ///
 /// While an update waits because memory ran out, the writer's next version isn't the published one.
 /// At most one update waits.
@@ -50,6 +61,7 @@ pub struct Publication<C: Crew, R: Wait + Drop> {
     head: Head,
     prefix: RecordPrefix,
     writer: VersionWriter<C>,
+    failed: u64,
 }
 
 impl<C: Crew, R: Wait + Drop> Model for Publication<C, R> {
@@ -62,6 +74,7 @@ impl<C: Crew, R: Wait + Drop> Model for Publication<C, R> {
     ghost view = { λ p. record {
       events = p.prefix.events;
       published = p.writer.desk.shown.value.prefix.events;
+      failed = p.failed;
     } };
 
     ghost invariant = { λ p. IsPublication C.history p.head p.prefix p.writer.desk.shown.value
@@ -76,6 +89,7 @@ impl<C: Crew, R: Wait + Drop> Drop for Publication<C, R> {
             head: _head,
             prefix: _prefix,
             writer,
+            failed: _failed,
         } = self;
         writer.take(&rt);
     }
@@ -148,6 +162,7 @@ impl<C: Crew, R: Wait + Drop> Publication<C, R> {
         requires shown { ShowsRecord C.history prefix.events writer }
         ensures events { result.events ≡ prefix.events }
         ensures published { result.published ≡ prefix.events }
+        ensures failed { result.failed ≡ 0 }
     {
         Publication {
             alloc,
@@ -155,6 +170,7 @@ impl<C: Crew, R: Wait + Drop> Publication<C, R> {
             head,
             prefix,
             writer,
+            failed: 0,
         }
     }
 
@@ -170,6 +186,7 @@ impl<C: Crew, R: Wait + Drop> Publication<C, R> {
     pub fn show(&self, share: &mut Share<C>)
         ensures seen { share.new.seen ≡ self.now.events }
         ensures share { Rises 0 share.old share.new }
+        ensures missed { share.new.missed ≡ share.old.missed }
     {
         share.see(&self.rt, &self.prefix);
     }
@@ -180,6 +197,17 @@ impl<C: Crew, R: Wait + Drop> Publication<C, R> {
         ensures { IsPrefix opened.now.events self.now.events }
     {
         opened.until_begins(&self.rt, &self.prefix);
+    }
+
+    /// Returns how much of the record that was entered is published.
+    pub fn published(&self) -> Published
+        ensures { result ≡ published_of self.now }
+    {
+        Published {
+            events: self.prefix.len(),
+            published: self.writer.published().prefix().len(),
+            failed: self.failed,
+        }
     }
 
     // Returns whether the record that was entered is published.
@@ -193,14 +221,14 @@ impl<C: Crew, R: Wait + Drop> Publication<C, R> {
         true
     }
 
-    /// Publishes the catalogue's record, which was entered. If an update waits, it is published
-    /// first. If `renews`, the catalogue's index replaces the published one, whose pages may be in
-    /// smaller segments. Returns whether it published: it didn't if memory ran out.
-    pub fn publish(&mut self, catalogue: &Catalogue, renews: bool) -> bool
+    // Publishes the update that waits, if there is one, then the catalogue's record, as `publish`
+    // says. Counts nothing.
+    fn try_publish(&mut self, catalogue: &Catalogue, renews: bool) -> bool
         requires { self.old.events ≡ catalogue.now }
         ensures events { self.new.events ≡ self.old.events }
         ensures published { IsTrue result → self.new.published ≡ self.old.events }
         ensures grows { IsPrefix self.old.published self.new.published }
+        ensures failed { self.new.failed ≡ self.old.failed }
     {
         if !catch_up(&mut self.writer, &self.rt) {
             return false;
@@ -216,13 +244,35 @@ impl<C: Crew, R: Wait + Drop> Publication<C, R> {
         )
     }
 
+    /// Publishes the catalogue's record, which was entered. If an update waits, it is published
+    /// first. If `renews`, the catalogue's index replaces the published one, whose pages may be in
+    /// smaller segments. Returns whether it published. If it didn't, memory ran out, and one more
+    /// publication failed.
+    pub fn publish(&mut self, catalogue: &Catalogue, renews: bool) -> bool
+        requires { self.old.events ≡ catalogue.now }
+        ensures events { self.new.events ≡ self.old.events }
+        ensures published { IsTrue result → self.new.published ≡ self.old.events }
+        ensures grows { IsPrefix self.old.published self.new.published }
+        ensures failed { CountsPublication result self.old.failed self.new.failed }
+        ensures shown { IsShown self.new }
+    {
+        if self.try_publish(catalogue, renews) {
+            return true;
+        }
+        self.failed = self.failed.saturating_add(1);
+        false
+    }
+
     // Publishes the catalogue's record, which was entered, unless it is published. Returns a note
     // exactly if it is published then.
+    #[tactic(auto, using(crate::proofs::PublicationLemmas::no_note_counts, crate::proofs::PublicationLemmas::note_counts))]
     fn note(&mut self, catalogue: &Catalogue) -> Option<Note<C>>
         requires { self.old.events ≡ catalogue.now }
         ensures events { self.new.events ≡ self.old.events }
         ensures note { IsNoted result self.new }
         ensures grows { IsPrefix self.old.published self.new.published }
+        ensures failed { CountsMissed result self.old.failed self.new.failed }
+        ensures shown { IsShown self.new }
     {
         if self.is_shown() {
             return Some(Note::of(&self.prefix));
@@ -235,17 +285,23 @@ impl<C: Crew, R: Wait + Drop> Publication<C, R> {
     }
 
     /// Enters the new events of the catalogue, shows its record to a share, and publishes it.
-    /// Returns a note exactly if the published record is then that of the catalogue.
+    /// Returns a note exactly if the published record is then that of the catalogue. If it returns
+    /// none, a publication failed, and the share counts a reply without a note.
     pub fn follow(&mut self, catalogue: &Catalogue, share: &mut Share<C>) -> Option<Note<C>>
         requires begun { IsPrefix self.old.events catalogue.now }
         ensures entered { self.new.events ≡ catalogue.now }
         ensures note { IsNoted result self.new }
         ensures grows { IsPrefix self.old.published self.new.published }
+        ensures failed { CountsMissed result self.old.failed self.new.failed }
+        ensures shown { IsShown self.new }
         ensures seen { share.new.seen ≡ catalogue.now }
         ensures share { Rises 0 share.old share.new }
+        ensures missed { CountsNote result share.old.missed share.new.missed }
     {
         enter(&self.rt, &mut self.prefix, &self.head, catalogue);
         self.show(share);
-        self.note(catalogue)
+        let note = self.note(catalogue);
+        share.count_note(&note);
+        note
     }
 }

@@ -1,9 +1,12 @@
 //! `work`: one worker, which claims places, fetches them and hands in their pages.
 
-ghost use Rattle.std.specs.Prelude.{◌≡◌, ◌+◌, ◌*◌, ◌≤◌, if◌then◌else◌};
+ghost use Rattle.std.specs.Prelude.{◌≡◌};
 ghost use mathlib.Core.List.{IsPrefix};
-ghost use Rattle.gopher_crew.specs.Share.{Rises};
-ghost use Rattle.gopher_crew.specs.Work.{one_more_call, found_rise, failed_rise, outcome_rise, IsPaid, IsStop, EndsClaim, WorksOnce, WorksOn, RisesByOutcomes};
+ghost use Rattle.std.specs.Arc.{arc_value};
+ghost use Rattle.gopher_catalogue.specs.declared.event.EventData.TheVariants.{Found};
+ghost use Rattle.gopher_crew.specs.Admitted.{MayAdd, IsPlaceIn};
+ghost use Rattle.gopher_crew.specs.Rounds.{AddsPageIf, AdmitsFetched, HandsIn, MayHandIn};
+ghost use Rattle.gopher_crew.specs.Work.{found_with, failed_with, IsStop, ReportsOf, WorksOnce, RoundsFrom, WorksOn};
 
 pub mod crawling;
 pub mod fetch;
@@ -12,7 +15,7 @@ pub mod merge_job;
 pub mod merging;
 pub mod settling;
 
-use crate::crew::Crew;
+use crate::crew::{Admits, Crew};
 use crate::desk::Desk;
 use crate::desk::share::Share;
 use crate::working::fetch::Fetch;
@@ -68,14 +71,16 @@ enum Outcome {
 }
 
 // Hands in a page, if there is memory for it. Returns whether it was added.
-fn hand_in_page<C: Crew, R: Wait + Drop, W: Wait>(
+#[tactic(auto, using(crate::proofs::Rounding::adds_found))]
+fn hand_in_page<C: Crew, R: Wait + Drop, A: Admits, W: Wait>(
     rt: &W,
-    desk: &Desk<C, R>,
+    desk: &Desk<C, R, A>,
     share: &mut Share<C>,
     number: u32,
     page: Page,
 ) -> bool
-    ensures { Rises (if result then 1 else 0) share.old share.new }
+    requires { MayAdd A.admits share.old.seen (Found number page) }
+    ensures { AddsPageIf result number page share.old share.new }
 {
     let size = page.size() as u64;
     if !desk.memory().take(size) {
@@ -92,15 +97,16 @@ fn hand_in_page<C: Crew, R: Wait + Drop, W: Wait>(
 
 // Hands in the page of a place, or fails it. It also fails a place whose page is refused, which
 // would stay out otherwise.
-fn hand_in<C: Crew, R: Wait + Drop, W: Wait>(
+#[tactic(auto, using(crate::proofs::Admitting::may_add_later, crate::proofs::Rounding::adds_failed, crate::proofs::Rounding::adds_failed_after, crate::proofs::Rounding::not_out, crate::proofs::Rounding::not_out_after))]
+fn hand_in<C: Crew, R: Wait + Drop, A: Admits, W: Wait>(
     rt: &W,
-    desk: &Desk<C, R>,
+    desk: &Desk<C, R, A>,
     share: &mut Share<C>,
     number: u32,
     settled: Result<Page, Why>,
 ) -> Outcome
-    ensures share { Rises (outcome_rise result) share.old share.new }
-    ensures out { EndsClaim result number share.new }
+    requires { MayHandIn A.admits number settled share.old.seen }
+    ensures { HandsIn result number settled share.old share.new }
 {
     let why = match settled {
         Ok(page) => {
@@ -117,30 +123,10 @@ fn hand_in<C: Crew, R: Wait + Drop, W: Wait>(
     }
 }
 
-// Fetches a place that was claimed, makes its page, and hands it in or fails the place.
-fn fetch_and_report<C: Crew, R: Wait + Drop, W: Wait, F: Fetch<W> + Drop>(
-    rt: &W,
-    alloc: Global,
-    desk: &Desk<C, R>,
-    claim: &Claim,
-    worker: &mut WorkEnd<F, C>,
-) -> Outcome
-    ensures share { Rises (outcome_rise result) worker.old.share worker.new.share }
-    ensures at_most { worker.new.share.events ≤ worker.old.share.events + 1 }
-    ensures called { F.called worker.new.fetcher ≡ one_more_call (F.called worker.old.fetcher) }
-    ensures found { worker.new.found ≡ worker.old.found }
-    ensures failed { worker.new.failed ≡ worker.old.failed }
-    ensures out { EndsClaim result claim.now.number worker.new.share }
-{
-    let fetched = worker.fetcher.fetch(rt, alloc, &claim.place, MAX_REPLY);
-    let settled = settle_shared(alloc, desk.opening().scope(), &claim.place, fetched);
-    hand_in(rt, desk, &mut worker.share, claim.number, settled)
-}
-
 // Counts an outcome as found or failed.
 fn count<F: Drop, C: Crew>(outcome: Outcome, worker: &mut WorkEnd<F, C>)
-    ensures found { worker.new.found ≤ worker.old.found + found_rise outcome }
-    ensures failed { worker.new.failed ≤ worker.old.failed + failed_rise outcome }
+    ensures found { worker.new.found ≡ found_with outcome worker.old.found }
+    ensures failed { worker.new.failed ≡ failed_with outcome worker.old.failed }
     ensures share { worker.new.share ≡ worker.old.share }
     ensures fetcher { worker.new.fetcher ≡ worker.old.fetcher }
 {
@@ -149,6 +135,25 @@ fn count<F: Drop, C: Crew>(outcome: Outcome, worker: &mut WorkEnd<F, C>)
         Outcome::Failed => worker.failed = worker.failed.saturating_add(1),
         Outcome::Refused => {}
     }
+}
+
+// Fetches a place that was claimed, makes its page, hands it in or fails the place, and counts what
+// became of it.
+fn fetch_and_report<C: Crew, R: Wait + Drop, A: Admits, W: Wait, F: Fetch<W> + Drop>(
+    rt: &W,
+    alloc: Global,
+    desk: &Desk<C, R, A>,
+    claim: &Claim,
+    worker: &mut WorkEnd<F, C>,
+)
+    requires admitted { AdmitsFetched A.admits F.fetches desk.now }
+    requires known { IsPlaceIn worker.old.share.seen claim.now.number (arc_value claim.now.place) }
+    ensures { ReportsOf F.fetches F.called desk.now claim.now worker.old worker.new }
+{
+    let fetched = worker.fetcher.fetch(rt, alloc, &claim.place, MAX_REPLY);
+    let settled = settle_shared(alloc, desk.opening().scope(), &claim.place, fetched);
+    let outcome = hand_in(rt, desk, &mut worker.share, claim.number, settled);
+    count(outcome, worker);
 }
 
 impl<F: Drop, C: Crew> WorkEnd<F, C> {
@@ -169,21 +174,19 @@ impl<F: Drop, C: Crew> WorkEnd<F, C> {
 
 // Claims the next place, fetches it and reports its outcome. Returns why the worker stops if there
 // is no place to claim.
-fn work_once<C: Crew, R: Wait + Drop, W: Wait, F: Fetch<W> + Drop>(
+#[tactic(auto, using(crate::proofs::Rounding::round_of, crate::proofs::Admitting::claimed_place))]
+fn work_once<C: Crew, R: Wait + Drop, A: Admits, W: Wait, F: Fetch<W> + Drop>(
     rt: &W,
     alloc: Global,
-    desk: &Desk<C, R>,
+    desk: &Desk<C, R, A>,
     worker: &mut WorkEnd<F, C>,
 ) -> Option<Stop>
-    ensures calls { WorksOnce F.called worker.old worker.new result }
-    ensures outcomes { RisesByOutcomes worker.old worker.new }
-    ensures parts { worker.new.share.parts ≡ worker.old.share.parts }
-    ensures seen { IsPrefix worker.old.share.seen worker.new.share.seen }
+    requires { AdmitsFetched A.admits F.fetches desk.now }
+    ensures { WorksOnce F.fetches F.called desk.now worker.old worker.new result }
 {
     match desk.next(rt, alloc, &mut worker.share) {
         Ok(Turn::Take(claim)) => {
-            let outcome = fetch_and_report(rt, alloc, desk, &claim, worker);
-            count(outcome, worker);
+            fetch_and_report(rt, alloc, desk, &claim, worker);
             None
         }
         Ok(Turn::Idle) => unreachable!(),
@@ -196,13 +199,14 @@ fn work_once<C: Crew, R: Wait + Drop, W: Wait, F: Fetch<W> + Drop>(
 }
 
 /// Does what `work` does, with a worker in its place. Its counts begin at 0.
-pub(crate) fn run<C: Crew, R: Wait + Drop, W: Wait, F: Fetch<W> + Drop>(
+pub(crate) fn run<C: Crew, R: Wait + Drop, A: Admits, W: Wait, F: Fetch<W> + Drop>(
     rt: &W,
     alloc: Global,
-    desk: &Desk<C, R>,
+    desk: &Desk<C, R, A>,
     worker: &mut WorkEnd<F, C>,
 )
-    ensures { WorksOn F.called worker.old worker.new }
+    requires { AdmitsFetched A.admits F.fetches desk.now }
+    ensures { WorksOn F.fetches F.called desk.now worker.old worker.new }
 {
     worker.found = 0;
     worker.failed = 0;
@@ -219,19 +223,24 @@ pub(crate) fn run<C: Crew, R: Wait + Drop, W: Wait, F: Fetch<W> + Drop>(
 /// hands the page in or reports why there is none. It holds no lock while it fetches. If places are
 /// out but none waits, it waits for another outcome.
 ///
-/// A page that doesn't fit in memory is failed with `NoMemory`. The share rises by at least two for
-/// each place found or failed, and by at most two for each call of the fetcher, unless the count of
-/// its calls is at its last value.
-pub fn work<C: Crew, R: Wait + Drop, W: Wait, F: Fetch<W> + Drop>(
+/// It works in rounds (`Round`). Each claims the first waiting place, fetches just that place once,
+/// at most 1,048,576 bytes (`MAX_REPLY`), and adds the event that records the outcome: the page of
+/// the bytes, or the reason why there are none. A page that doesn't fit in memory is failed with
+/// `NoMemory`. If the number is no longer out, which happens only if another caller reports it, the
+/// round adds nothing. So the share rises by two for each place found or failed, and by at most two
+/// for each call of the fetcher.
+///
+/// The desk's rule must admit each outcome that the fetcher may have (`Admits`).
+pub fn work<C: Crew, R: Wait + Drop, A: Admits, W: Wait, F: Fetch<W> + Drop>(
     rt: &W,
     alloc: Global,
-    desk: &Desk<C, R>,
+    desk: &Desk<C, R, A>,
     fetcher: F,
     share: Share<C>,
 ) -> WorkEnd<F, C>
+    requires { AdmitsFetched A.admits F.fetches desk.now }
     ensures stop { IsStop result.stop result.share }
-    ensures outcomes { share.events + 2 * (result.found + result.failed) ≤ result.share.events }
-    ensures calls { IsPaid share result.share (F.called fetcher) (F.called result.fetcher) }
+    ensures rounds { RoundsFrom F.fetches F.called desk.now (fetcher, share) result }
     ensures parts { result.share.parts ≡ share.parts }
     ensures seen { IsPrefix share.seen result.share.seen }
 {

@@ -1,6 +1,10 @@
 mod AliasLemmas
+mod AskedLemmas
 mod Ends
 mod Fetches
+mod Multiples
+mod Parts
 mod Searches
+mod ServerFaults
 mod SiteLeads
 mod ThreadEnds

@@ -2,7 +2,7 @@
 use Rattle.std.proofs.Common.{◌≡◌, ℕ, List, [], ◌∷◌, Option, None, Some, sym, subst}
 use mathlib.Core.List.{IsPrefix}
 use Rattle.gopher_crew.proofs.Prefixes.{prefix_self, prefix_trans}
-use Rattle.gopher_serve.specs.Leads.{Leads, stays, goes}
+use Rattle.gopher_item.specs.Leads.{Leads, stays, goes}
 use Rattle.gopher_crew.specs.Pass.{PassData, SeesOn}
 use Rattle.gopher_item.specs.Place.{HomeData}
 use Rattle.gopher_page.specs.Query.{TermData}

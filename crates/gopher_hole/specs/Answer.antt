@@ -17,7 +17,7 @@ use Rattle.gopher_serve.specs.Kept.{RepliesData}
 use Rattle.gopher_catalogue.specs.Legal.{IsLegal}
 use Rattle.gopher_crew.specs.Pass.{PassData, SeesOn, hits_of}
 use mathlib.Core.List.{IsPrefix}
-use Rattle.gopher_serve.specs.Leads.{Leads}
+use Rattle.gopher_item.specs.Leads.{Leads}
 use Rattle.gopher_hole.specs.Aliases.{Alias, answered_selector}
 
 -- the selector is `/search`

@@ -11,5 +11,9 @@ pub mod Listing
 pub mod Outs
 pub mod Pauses
 pub mod Program
+pub mod Progress
+pub mod ServerFault
+pub mod Shares
 pub mod Silences
 pub mod Url
+pub mod Values

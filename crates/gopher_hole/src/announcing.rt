@@ -1,12 +1,13 @@
 //! What the program writes: its texts, the line after it listens, and the line of a fault, with the
 //! setting or seed that it names.
 
-ghost use Rattle.std.specs.Prelude.{◌≡◌, [], ◌∷◌, ◌++◌, IfOk, OnOk};
+ghost use Rattle.std.specs.Prelude.{◌≡◌, [], ◌∷◌, ◌++◌, IfErr, IfOk, OnOk};
 ghost use Rattle.std.specs.Fmt.{decimal};
 ghost use Rattle.gopher_script.specs.Answer.{status_line};
 ghost use Rattle.gopher_script.specs.Replay.{SendsAnswer};
 ghost use Rattle.gopher_text.specs.Watched.{HasSent};
 ghost use Rattle.gopher_hole.specs.Ending.{listening_line};
+ghost use Rattle.gopher_hole.specs.ServerFault.{IsServingFault};
 ghost use Rattle.gopher_hole.specs.Fault.{detail_bytes, details_bytes, line_bytes, fault_line};
 
 use crate::fault::{Detail, ProgramFault};
@@ -25,7 +26,8 @@ use std::io::Write;
 /// `WriteFailed` (13): a write or the flush failed.
 #[tactic(auto, using(crate::proofs::Ends::sends_kept))]
 pub fn send_text<W: Write>(output: &mut Watched<W>, text: &[u8]) -> Result<(), ProgramFault>
-    ensures { OnOk result (HasSent W.contents output.old output.new text.now) }
+    ensures sent { OnOk result (HasSent W.contents output.old output.new text.now) }
+    ensures fault { IfErr result IsServingFault }
 {
     let Ok(()) = send(output, text) else {
         return Err(ProgramFault::WriteFailed);
@@ -57,7 +59,9 @@ pub fn tell_listening<W: Write>(
     home: &Home,
     output: &mut Watched<W>,
 ) -> Result<(), ProgramFault>
-    ensures { OnOk result (HasSent W.contents output.old output.new (listening_line home.now)) }
+    ensures line { OnOk result (HasSent W.contents output.old output.new
+        (listening_line home.now)) }
+    ensures fault { IfErr result IsServingFault }
 {
     let line = listening_line(alloc, home)?;
     send_text(output, &line)
@@ -73,7 +77,8 @@ pub fn tell_status<W: Write>(
     status: Status,
     output: &mut Watched<W>,
 ) -> Result<(), ProgramFault>
-    ensures { OnOk result (HasSent W.contents output.old output.new (status_line status)) }
+    ensures line { OnOk result (HasSent W.contents output.old output.new (status_line status)) }
+    ensures fault { IfErr result IsServingFault }
 {
     let line = status_line(alloc, status)?;
     send_text(output, &line)

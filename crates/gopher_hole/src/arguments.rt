@@ -1,10 +1,13 @@
 //! The arguments of the program.
 
+pub mod values;
+
+use crate::arguments::values::{address_of, bytes_of};
 use clap::{Arg, ArgAction, ArgMatches, Command, Error, value_parser};
 use gopher_item::NoMemory;
 use gopher_server::MAX_LISTENERS;
 use std::alloc::{AllocError, Global};
-use std::net::{IpAddr, Ipv6Addr, SocketAddr};
+use std::net::SocketAddr;
 
 // The version. Nothing else in the repository states it but CHANGELOG.md.
 const VERSION: &str = "0.3.0";
@@ -17,6 +20,9 @@ const MAX_FETCH_TIMEOUT: i64 = 86_400;
 
 // The seconds after which such a fetch fails if the arguments name none.
 const DEFAULT_FETCH_TIMEOUT: u64 = 60;
+
+// The largest number of connections of one address: more than there are places.
+const MAX_CLIENTS: i64 = 1_000_000;
 
 // The most milliseconds between the beginnings of two fetches of one host: an hour.
 const MAX_FETCH_PAUSE: i64 = 3_600_000;
@@ -70,6 +76,8 @@ pub struct Serving<'a> {
     pub settings: &'a str,
     /// After how many connections the server ends; `None` if it never does.
     pub requests: Option<u64>,
+    /// How many connections of one address the server holds at most; `None` for a quarter of all.
+    pub clients_per_address: Option<u64>,
     /// The path of the log; `None` if no request is logged.
     pub log: Option<&'a str>,
     /// Whether to print the progress of the crawl.
@@ -135,6 +143,12 @@ fn pause_argument<'a>(alloc: Global) -> Arg<'a> {
     option(alloc, "fetch-pause", "MILLISECONDS", help).value_parser(milliseconds)
 }
 
+fn clients_argument<'a>(alloc: Global) -> Arg<'a> {
+    let help = "Hold at most N connections of one address (a quarter of all)";
+    let numbers = value_parser!(u64).range(1..=MAX_CLIENTS);
+    option(alloc, "clients-per-address", "N", help).value_parser(numbers)
+}
+
 fn list_argument<'a>(alloc: Global) -> Arg<'a> {
     let help = "Write the found places to this file when the crawl is over";
     option(alloc, "list-found", "FILE", help)
@@ -177,6 +191,7 @@ fn serve_command<'a>(alloc: Global) -> Result<Command<'a>, AllocError> {
         settings_argument(alloc),
         option(alloc, "listen", "ADDRESS", listen).action(ArgAction::Append),
         option(alloc, "requests", "N", requests).value_parser(numbers),
+        clients_argument(alloc),
         option(alloc, "log", "FILE", log),
         progress_argument(alloc),
         option(alloc, "crawl-memory", "BYTES", memory),
@@ -230,42 +245,6 @@ fn shown(alloc: Global, error: &Error) -> Result<Text, NoMemory> {
     } else {
         Ok(Text::Shown(text))
     }
-}
-
-// The address that an argument names, with port 0 if it names no port.
-fn address_of(argument: &str) -> Option<SocketAddr> {
-    if let Ok(address) = argument.parse::<SocketAddr>() {
-        return (address.port() != 0).then_some(address);
-    }
-    if let Ok(address) = argument.parse::<IpAddr>() {
-        return Some(SocketAddr::new(address, 0));
-    }
-    let inside = argument.strip_prefix('[')?.strip_suffix(']')?;
-    let address = inside.parse::<Ipv6Addr>().ok()?;
-    Some(SocketAddr::new(IpAddr::V6(address), 0))
-}
-
-/// The address, with this port if it has port 0.
-pub fn with_port(address: SocketAddr, port: u16) -> SocketAddr {
-    if address.port() == 0 {
-        SocketAddr::new(address.ip(), port)
-    } else {
-        address
-    }
-}
-
-// The number of bytes that an argument names: `65536`, `64K`, `64M` or `64G`.
-fn bytes_of(argument: &str) -> Option<u64> {
-    let (digits, unit) = if let Some(digits) = argument.strip_suffix('K') {
-        (digits, 1 << 10)
-    } else if let Some(digits) = argument.strip_suffix('M') {
-        (digits, 1 << 20)
-    } else if let Some(digits) = argument.strip_suffix('G') {
-        (digits, 1 << 30)
-    } else {
-        (argument, 1)
-    };
-    digits.parse::<u64>().ok()?.checked_mul(unit)
 }
 
 // The text about a bad value of an option of a command.
@@ -357,6 +336,7 @@ fn read_serve<'a>(alloc: Global, serve: &ArgMatches<'a>) -> Result<Asked<'a>, No
     Ok(Asked::Serve(Serving {
         settings,
         requests: serve.get_one::<u64>("requests"),
+        clients_per_address: serve.get_one::<u64>("clients-per-address"),
         log: serve.get_str("log"),
         progress: serve.get_flag("progress"),
         crawl_memory,

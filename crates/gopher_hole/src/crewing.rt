@@ -2,8 +2,10 @@
 
 ghost use Rattle.std.specs.Prelude.{◌≡◌, [], None, Some, Ok, IfErr, IfOk, OnOk, vec_len};
 ghost use Rattle.gopher_hole.specs.Ending.{HasServed, ServerEnds, StartsAll, fault_at_end, listening_line};
+ghost use Rattle.gopher_hole.specs.ServerFault.{IsServerFault, IsServingFault};
+ghost use Rattle.gopher_hole.specs.Shares.{KeepsAllParts, shares_after, shares_with};
 ghost use Rattle.gopher_text.specs.Watched.{HasSent};
-ghost use Rattle.gopher_crew.specs.Desk.{IsBlankOf};
+ghost use Rattle.gopher_crew.specs.Desk.{HasAll, IsBlankOf};
 ghost use Rattle.gopher_crew.specs.Kept.{IsStatusAfter};
 
 use crate::announcing::{tell_listening, tell_status};
@@ -46,7 +48,8 @@ fn pairs_of<'a, C: Crew>(
     shares: Vec<Share<C>>,
     state: &'a CrawlState,
 ) -> Result<Vec<(CrawlFetch<'a>, Share<C>)>, NoMemory>
-    ensures { IfOk result (λ pairs. vec_len pairs ≡ vec_len shares) }
+    ensures len { IfOk result (λ pairs. vec_len pairs ≡ vec_len shares) }
+    ensures shares { IfOk result (λ pairs. shares_with pairs.items ≡ shares.items) }
 {
     let mut pairs = Vec::with_capacity(alloc, shares.len())?;
     for share in shares {
@@ -80,6 +83,7 @@ fn wait_for_all<P: Promise<ThreadEnd>, T: Drop, E: Drop, R: Threads>(
     ensures fault { IfErr result (λ fault. ServerEnds P.Promise started crawled (Some fault)) }
     ensures none { OnOk result (ServerEnds P.Promise started crawled None) }
     ensures kept { IfOk result (λ ends. crawled ≡ Ok ends) }
+    ensures serving { IfErr result IsServingFault }
 {
     let end = join_all(rt, started);
     if let Some(fault) = fault_at_end(end, crawled.is_ok()) {
@@ -99,7 +103,8 @@ fn start<C: Crew + Send + Sync + 'static, R: System + Net>(
     content: Content,
     passes: Vec<Pass<C>>,
 ) -> Result<Started<AnyEnd>, ProgramFault>
-    ensures { IfOk result (λ started. StartsAll passes started) }
+    ensures started { IfOk result (λ started. StartsAll passes started) }
+    ensures fault { IfErr result IsServingFault }
 {
     let tells = server.tells;
     let setups = set_up(rt, alloc, server, passes.len())?;
@@ -125,7 +130,11 @@ fn crawl_to_end<
     desk: &Desk<C, &R>,
     pairs: Vec<(CrawlFetch<'a>, Share<C>)>,
     reporting: Reporting<'_>,
-) -> Result<Vec<WorkEnd<CrawlFetch<'a>, C>>, ProgramFault> {
+) -> Result<Vec<WorkEnd<CrawlFetch<'a>, C>>, ProgramFault>
+    requires { IfErr started IsServingFault }
+    ensures parts { IfOk result (λ ends. KeepsAllParts pairs.entry.items ends.items) }
+    ensures fault { IfErr result IsServingFault }
+{
     let started = started?;
     let crawled = crawl_and_tell(rt, alloc, desk, pairs, reporting);
     wait_for_all(rt, started, crawled)
@@ -135,7 +144,9 @@ fn crawl_to_end<
 fn shares_of<C: Crew>(
     alloc: Global,
     ends: Vec<WorkEnd<CrawlFetch<'_>, C>>,
-) -> Result<Vec<Share<C>>, NoMemory> {
+) -> Result<Vec<Share<C>>, NoMemory>
+    ensures { IfOk result (λ shares. shares.items ≡ shares_after ends.entry.items) }
+{
     let mut shares = Vec::new(alloc);
     for end in ends {
         shares.push(end.share)?;
@@ -143,13 +154,15 @@ fn shares_of<C: Crew>(
     Ok(shares)
 }
 
-// Closes the desk. Returns the number of places in each state.
+// Closes the desk with the shares of all its workers. Returns the number of places in each state.
 fn close<C: Crew, R: Wait + Drop>(
     alloc: Global,
     desk: Desk<C, R>,
     ends: Vec<WorkEnd<CrawlFetch<'_>, C>>,
 ) -> Result<Status, ProgramFault>
-    ensures { IfOk result (IsStatusAfter desk) }
+    requires { HasAll C.parts (shares_after ends.items) }
+    ensures status { IfOk result (IsStatusAfter desk) }
+    ensures fault { IfErr result IsServingFault }
 {
     match desk.close(shares_of(alloc, ends)?) {
         Ok(catalogue) => Ok(catalogue.status()),
@@ -169,7 +182,9 @@ fn open_listeners<R: Net + Env + Eprint + AllocGlobal, W: Write>(
     workers: usize,
     output: &mut Watched<W>,
 ) -> Result<(Vec<TcpListener>, u64), ProgramFault>
-    ensures { OnOk result (HasSent W.contents output.old output.new (listening_line home.now)) }
+    ensures line { OnOk result (HasSent W.contents output.old output.new
+        (listening_line home.now)) }
+    ensures fault { IfErr result IsServingFault }
 {
     let listeners = listen(rt, alloc, home, &serving.addresses, serving.progress)?;
     let Some(places) = max_connections(listeners.len(), threads, workers) else {
@@ -180,6 +195,15 @@ fn open_listeners<R: Net + Env + Eprint + AllocGlobal, W: Write>(
     };
     tell_listening(alloc, home, output)?;
     Ok((listeners, places))
+}
+
+// How many connections of one address the server holds at most. Without the option, its own crawl
+// has room for all workers.
+fn clients_of(serving: &Serving<'_>, places: u64, workers: usize) -> u64 {
+    let workers = workers as u64;
+    serving
+        .clients_per_address
+        .unwrap_or((places / 4).max(workers.saturating_add(1)))
 }
 
 // Listens, serves, and crawls at the desk. Returns the workers' ends once all have ended.
@@ -198,8 +222,10 @@ fn listen_and_serve<
     reporting: Reporting<'_>,
     output: &mut Watched<W>,
 ) -> Result<Vec<WorkEnd<CrawlFetch<'a>, C>>, ProgramFault>
-    ensures { OnOk result (HasSent W.contents output.old output.new
+    ensures line { OnOk result (HasSent W.contents output.old output.new
         (listening_line content.replies.home)) }
+    ensures parts { IfOk result (λ ends. KeepsAllParts pairs.entry.items ends.items) }
+    ensures fault { IfErr result IsServingFault }
 {
     if let Some(bytes) = serving.crawl_memory {
         desk.limit_memory(bytes);
@@ -218,6 +244,7 @@ fn listen_and_serve<
         listeners,
         requests: serving.requests,
         places,
+        clients_per_address: Some(clients_of(serving, places, workers)),
         log: log.as_ref().and_then(|log| log.queue()),
         tells: serving.progress,
     };
@@ -243,9 +270,11 @@ fn serve_and_close<
     reporting: Reporting<'_>,
     out: &mut Watched<W>,
 ) -> Result<Status, ProgramFault>
+    requires { HasAll C.parts shares.items }
     ensures line { OnOk result (HasSent W.contents out.old out.new
         (listening_line content.replies.home)) }
     ensures status { IfOk result (IsStatusAfter desk.entry) }
+    ensures fault { IfErr result IsServingFault }
 {
     let alloc = rt.alloc();
     let pairs = pairs_of(alloc, shares, reporting.state)?;
@@ -265,9 +294,9 @@ fn serve_and_close<
 ///
 /// - `ListenFailed` (81): a thread could no longer accept connections
 /// - `NoThread` (82): a server thread couldn't be started
-/// - `StrangeShare` (62): the workers' shares don't count the events of the crawl
 /// - `WriteFailed` (13): a line couldn't be written or flushed
 /// - `NoMemory` (90)
+#[tactic(auto, using(crate::proofs::ServerFaults::settings_is_server, crate::proofs::ServerFaults::aliases_is_server, crate::proofs::ServerFaults::opening_is_server, crate::proofs::ServerFaults::serving_is_server))]
 pub fn serve<
     C: Crew + Send + Sync + 'static,
     R: System + Files<File = File> + Net<Listener = NetListener, Stream = TcpStream>,
@@ -275,7 +304,8 @@ pub fn serve<
 >(rt: &R, serving: &Serving<'_>, blank: Blank, output: &mut Watched<W>) -> Result<(), ProgramFault>
     requires blank { IsBlankOf C.name C.parts C.history blank }
     requires begun { blank.begun ≡ [] }
-    ensures { OnOk result (HasServed W.contents output.old output.new) }
+    ensures served { OnOk result (HasServed W.contents output.old output.new) }
+    ensures fault { IfErr result IsServerFault }
 {
     let alloc = rt.alloc();
     let settings = read_settings(rt, alloc, serving.settings)?;

@@ -2,6 +2,7 @@
 //! sent and read).
 
 ghost use Rattle.std.specs.Prelude.{◌≡◌, ◌≤◌, vec_len, IfOk};
+ghost use Rattle.gopher_crew.specs.Rounds.{one_more_call};
 
 mod cause;
 mod connecting;
@@ -56,8 +57,11 @@ fn connect<R: Net<Listener = TcpListener, Stream = TcpStream>>(
     TcpStream::connect(rt, (host, place.port())).ok()
 }
 
+// Contracts know nothing of what a socket sends, so of a fetch they say only that it was counted.
 impl Calls for TcpFetch {
     ghost called = { λ fetcher. fetcher.calls };
+
+    ghost fetches = { λ old new place limit outcome. new.calls ≡ one_more_call old.calls };
 
     fn calls(&self) -> u64 {
         self.calls
@@ -163,6 +167,8 @@ impl<'a> CrawlFetch<'a> {
 
 impl<'a> Calls for CrawlFetch<'a> {
     ghost called = { λ fetcher. fetcher.calls };
+
+    ghost fetches = { λ old new place limit outcome. new.calls ≡ one_more_call old.calls };
 
     fn calls(&self) -> u64 {
         self.calls

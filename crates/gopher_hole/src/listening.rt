@@ -1,6 +1,9 @@
 //! The sockets on which a server listens.
 
-use crate::arguments::with_port;
+ghost use Rattle.std.specs.Prelude.{IfErr};
+ghost use Rattle.gopher_hole.specs.ServerFault.{IsServingFault};
+
+use crate::arguments::values::with_port;
 use crate::fault::ProgramFault;
 use gopher_item::{Home, NoMemory};
 use gopher_server::{MAX_LISTENERS, limit_send_buffers};
@@ -109,7 +112,9 @@ fn listen_at_all<R: Net + Eprint>(
     home: &Home,
     addresses: &[SocketAddr],
     tells: bool,
-) -> Result<Vec<TcpListener>, ProgramFault> {
+) -> Result<Vec<TcpListener>, ProgramFault>
+    ensures { IfErr result IsServingFault }
+{
     let Ok(host) = str::from_utf8(home.host()) else {
         return Err(ProgramFault::ListenFailed);
     };
@@ -141,7 +146,9 @@ pub fn listen<R: Net + Env + Eprint + AllocGlobal>(
     home: &Home,
     addresses: &[SocketAddr],
     tells: bool,
-) -> Result<Vec<TcpListener>, ProgramFault> {
+) -> Result<Vec<TcpListener>, ProgramFault>
+    ensures { IfErr result IsServingFault }
+{
     let mut listeners = inherited(rt, alloc)?;
     if listeners.is_empty() {
         listeners = listen_at_all(rt, alloc, home, addresses, tells)?;

@@ -1,11 +1,13 @@
 //! Opening a server: its settings, its aliases, its folder and its desk.
 
-ghost use Rattle.std.specs.Prelude.{◌≡◌, [], IfOk};
+ghost use Rattle.std.specs.Prelude.{◌≡◌, [], None, IfErr, IfOk, OnOk};
 ghost use mathlib.Core.List.{IsPrefix};
-ghost use Rattle.gopher_catalogue.specs.Step.{opened_record};
-ghost use Rattle.gopher_crew.specs.Desk.{IsBlankOf, AllHaveSeen, shares_at};
+ghost use Rattle.gopher_catalogue.specs.Step.{open_fault, opened_record};
+ghost use Rattle.gopher_crew.specs.Desk.{IsBlankOf, AllHaveSeen, HasAll, shares_at};
 ghost use Rattle.gopher_hole.specs.Aliases.{AreAliases, AreAliasesOf};
 ghost use Rattle.gopher_hole.specs.Ending.{AreSettings, opening_record};
+ghost use Rattle.gopher_hole.specs.ServerFault.{IsAliasesFault, IsCatalogueFault, IsFaultIn, IsFaultOfDesk, IsFolderFault, IsOpeningFault, IsSettingsFault, IsTextFault};
+ghost use Rattle.gopher_scope.specs.Settings.{AreSettingsOf};
 
 use crate::aliases::Aliases;
 use crate::fault::ProgramFault;
@@ -49,7 +51,9 @@ pub struct Opened<C: Crew, R: Wait + Drop> {
 /// - `SettingsUnreadable` (80): the file can't be read, has over 1,048,576 bytes
 ///   (`MAX_SETTINGS`), or isn't UTF-8
 /// - `Settings` (90): out of memory
-pub fn settings_text<R: Files>(rt: &R, alloc: Global, path: &str) -> Result<String, SiteFault> {
+pub fn settings_text<R: Files>(rt: &R, alloc: Global, path: &str) -> Result<String, SiteFault>
+    ensures { IfErr result IsTextFault }
+{
     let Ok(file) = fs::open(rt, path) else {
         return Err(SiteFault::SettingsUnreadable(SettingsObstacle::Other));
     };
@@ -64,6 +68,17 @@ pub fn settings_text<R: Files>(rt: &R, alloc: Global, path: &str) -> Result<Stri
     }
 }
 
+// Reads the settings of a text.
+fn settings_in(alloc: Global, text: &str) -> Result<Settings, SiteFault>
+    ensures settings { IfOk result (AreSettingsOf text.now) }
+    ensures fault { IfErr result (IsFaultIn text.now) }
+{
+    match Settings::read(alloc, text) {
+        Ok(settings) => Ok(settings),
+        Err(fault) => Err(SiteFault::Settings(fault)),
+    }
+}
+
 /// Reads the settings of a file.
 ///
 /// # Errors
@@ -71,12 +86,12 @@ pub fn settings_text<R: Files>(rt: &R, alloc: Global, path: &str) -> Result<Stri
 /// - `SettingsUnreadable` (80): as `settings_text` fails
 /// - `Settings` (30 to 34, 90): as `Settings::read` fails
 pub fn read_settings<R: Files>(rt: &R, alloc: Global, path: &str) -> Result<Settings, SiteFault>
-    ensures { IfOk result AreSettings }
+    ensures settings { IfOk result AreSettings }
+    ensures fault { IfErr result IsSettingsFault }
 {
-    let text = settings_text(rt, alloc, path)?;
-    match Settings::read(alloc, text.as_str()) {
-        Ok(settings) => Ok(settings),
-        Err(fault) => Err(SiteFault::Settings(fault)),
+    match settings_text(rt, alloc, path) {
+        Ok(text) => settings_in(alloc, text.as_str()),
+        Err(fault) => Err(fault),
     }
 }
 
@@ -86,7 +101,9 @@ pub fn read_settings<R: Files>(rt: &R, alloc: Global, path: &str) -> Result<Sett
 ///
 /// - `AliasesUnreadable` (36): the file can't be read, or has over 1,048,576 bytes (`MAX_ALIASES`)
 /// - `NoMemory` (90)
-pub fn aliases_text<R: Files>(rt: &R, alloc: Global, path: &str) -> Result<Vec<u8>, ProgramFault> {
+pub fn aliases_text<R: Files>(rt: &R, alloc: Global, path: &str) -> Result<Vec<u8>, ProgramFault>
+    ensures { IfErr result IsAliasesFault }
+{
     let Ok(file) = fs::open(rt, path) else {
         return Err(ProgramFault::AliasesUnreadable);
     };
@@ -99,11 +116,14 @@ pub fn aliases_text<R: Files>(rt: &R, alloc: Global, path: &str) -> Result<Vec<u
 
 // Reads the aliases of a file.
 fn aliases_in<R: Files>(rt: &R, alloc: Global, path: &str) -> Result<Aliases, ProgramFault>
-    ensures { IfOk result AreAliases }
+    ensures aliases { IfOk result AreAliases }
+    ensures fault { IfErr result IsAliasesFault }
 {
     let text = aliases_text(rt, alloc, path)?;
-    let aliases = Aliases::read(alloc, &text)?;
-    Ok(aliases)
+    match Aliases::read(alloc, &text) {
+        Ok(aliases) => Ok(aliases),
+        Err(fault) => Err(ProgramFault::Aliases(fault)),
+    }
 }
 
 /// Reads the aliases of a file, if one is named.
@@ -117,7 +137,8 @@ pub fn read_aliases<R: Files>(
     alloc: Global,
     path: Option<&str>,
 ) -> Result<Aliases, ProgramFault>
-    ensures { IfOk result (AreAliasesOf path.entry) }
+    ensures aliases { IfOk result (AreAliasesOf path.entry) }
+    ensures fault { IfErr result IsAliasesFault }
 {
     match path {
         Some(path) => aliases_in(rt, alloc, path),
@@ -175,7 +196,8 @@ fn open_replies<R: Files + Eprint>(
     home: Home,
     leave_out: bool,
 ) -> Result<Replies, ProgramFault>
-    ensures { IfOk result (λ replies. replies.home ≡ home) }
+    ensures home { IfOk result (λ replies. replies.home ≡ home) }
+    ensures fault { IfErr result IsFolderFault }
 {
     let tree = match load(rt, alloc, root.as_str(), leave_out) {
         Ok(tree) => tree,
@@ -188,6 +210,7 @@ fn open_replies<R: Files + Eprint>(
 }
 
 // Opens the catalogue of the crawl.
+#[tactic(auto, using(crate::proofs::ServerFaults::open_fault_is))]
 fn open_catalogue(
     alloc: Global,
     scope: Scope,
@@ -195,7 +218,9 @@ fn open_catalogue(
     places: u32,
     tries: u32,
 ) -> Result<Catalogue, ProgramFault>
-    ensures { IfOk result (λ c. c ≡ opened_record scope seeds.items places tries) }
+    ensures opened { IfOk result (λ c. c ≡ opened_record scope seeds.items places tries) }
+    ensures ok { OnOk result (open_fault scope seeds.items places tries ≡ None) }
+    ensures fault { IfErr result (IsCatalogueFault (open_fault scope seeds.items places tries)) }
 {
     match Catalogue::open(alloc, scope, seeds, places, tries) {
         Ok(catalogue) => Ok(catalogue),
@@ -217,6 +242,8 @@ fn open_desk<'r, C: Crew, R: Wait>(
     ensures desk { IfOk result (λ opened. opened.0 ≡ catalogue) }
     ensures passes { IfOk result (λ opened. AllHaveSeen opened.0 threads opened.1.items) }
     ensures shares { IfOk result (λ opened. opened.2.items ≡ shares_at opened.0 workers) }
+    ensures whole { IfOk result (λ opened. HasAll C.parts opened.2.items) }
+    ensures fault { IfErr result (IsFaultOfDesk threads workers) }
 {
     match Desk::<C, &'r R>::open(rt, alloc, catalogue, threads, workers, blank) {
         Ok(opened) => Ok(opened),
@@ -239,6 +266,7 @@ fn open_desk<'r, C: Crew, R: Wait>(
 /// - `Open` (50, 51, 54, 90): as `Catalogue::open` fails
 /// - `Desk` (60, 61, 90): as `Desk::open` fails
 /// - `NoMemory` (90)
+#[tactic(auto, using(crate::proofs::ServerFaults::folder_is_opening, crate::proofs::ServerFaults::catalogue_is_opening, crate::proofs::ServerFaults::desk_is_opening))]
 pub fn open<'r, C: Crew, R: Files + Wait + Eprint>(
     rt: &'r R,
     alloc: Global,
@@ -252,6 +280,8 @@ pub fn open<'r, C: Crew, R: Files + Wait + Eprint>(
     ensures desk { IfOk result (λ o. o.desk ≡ opening_record settings) }
     ensures passes { IfOk result (λ o. AllHaveSeen o.desk settings.threads o.passes.items) }
     ensures shares { IfOk result (λ o. o.shares.items ≡ shares_at o.desk settings.workers) }
+    ensures whole { IfOk result (λ o. HasAll C.parts o.shares.items) }
+    ensures fault { IfErr result (IsOpeningFault settings) }
 {
     let Settings {
         home,

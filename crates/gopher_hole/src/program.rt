@@ -6,7 +6,8 @@ ghost use Rattle.std.specs.Io.KnownBytes.{Keeps};
 ghost use Rattle.gopher_hole.specs.Ending.{FoundSound, HasServed};
 ghost use Rattle.gopher_hole.specs.Fault.{fault_line};
 ghost use Rattle.gopher_script.specs.Replay.{Replays};
-ghost use Rattle.gopher_hole.specs.Program.{asks_replay, exit_status, ReplaysAndExits, SaysOnError, SaysFault};
+ghost use Rattle.gopher_hole.specs.Program.{asks_replay, exit_status, DidAsAsked, DidWhatIsAsked, HasReplayed, HasShown, IsAnyFault, IsReplayFault, MayEndWith, ReplaysAndExits, SaysOneOf, SaysOnError, SaysWhyAsked};
+ghost use Rattle.gopher_hole.specs.ServerFault.{IsServerFault, IsServingFault};
 
 use crate::announcing::{send_text, write_fault};
 use crate::arguments::{Asked, Checking, Serving, Text, read_arguments};
@@ -58,8 +59,10 @@ fn run_replay<R: Read, W: Write, E: Write>(
 ) -> u8
     ensures replays { ReplaysAndExits R.remaining W.contents E.contents
         input.old input.new output.old output.new error.old error.new result }
+    ensures done { result ≡ 0 → HasReplayed R.remaining W.contents
+        input.old input.new output.old output.new }
     ensures well { result ≡ 0 → error.new ≡ error.old }
-    ensures told { result ≢ 0 → SaysFault E.contents error.old error.new }
+    ensures told { result ≢ 0 → SaysOneOf IsReplayFault E.contents error.old error.new }
     ensures status { result ≤ 1 }
 {
     match replay_all(alloc, input, output) {
@@ -91,8 +94,9 @@ fn tell_end<E: Write>(error: &mut Watched<E>, end: Result<(), ProgramFault>) -> 
 
 // Writes a text to the stream where it belongs. Returns the exit status.
 fn tell_text<W: Write, E: Write>(text: &Text, output: &mut Watched<W>, error: &mut Watched<E>) -> u8
+    ensures done { result ≡ 0 → HasShown W.contents output.old output.new text.now }
     ensures well { result ≡ 0 → error.new ≡ error.old }
-    ensures told { result ≡ 1 → SaysFault E.contents error.old error.new }
+    ensures told { result ≡ 1 → SaysOneOf IsServingFault E.contents error.old error.new }
     ensures refused { result ≡ 2 → output.new ≡ output.old }
     ensures status { result ≤ 2 }
 {
@@ -116,7 +120,7 @@ fn run_serve<
 >(rt: &H, serving: &Serving<'_>, output: &mut Watched<W>, error: &mut Watched<E>) -> u8
     ensures served { result ≡ 0 → HasServed W.contents output.old output.new }
     ensures well { result ≡ 0 → error.new ≡ error.old }
-    ensures told { result ≢ 0 → SaysFault E.contents error.old error.new }
+    ensures told { result ≢ 0 → SaysOneOf IsServerFault E.contents error.old error.new }
     ensures status { result ≤ 1 }
 {
     let end = serve::<Brand, H, W>(rt, serving, Blank::new(), output);
@@ -132,11 +136,39 @@ fn run_check<H: Files + Net + AllocGlobal, W: Write, E: Write>(
 ) -> u8
     ensures sound { result ≡ 0 → FoundSound W.contents output.old output.new }
     ensures well { result ≡ 0 → error.new ≡ error.old }
-    ensures told { result ≢ 0 → SaysFault E.contents error.old error.new }
+    ensures told { result ≢ 0 → SaysOneOf IsAnyFault E.contents error.old error.new }
     ensures status { result ≤ 1 }
 {
     let end = check_site(rt, rt.alloc(), checking, output);
     tell_end(error, end)
+}
+
+// Does what the arguments ask for. Returns the exit status.
+fn run_asked<
+    H: System + Files<File = File> + Net<Listener = TcpListener, Stream = TcpStream>,
+    R: Read,
+    W: Write,
+    E: Write,
+>(
+    rt: &H,
+    asked: &Asked<'_>,
+    input: &mut Watched<R>,
+    output: &mut Watched<W>,
+    error: &mut Watched<E>,
+) -> u8
+    ensures done { result ≡ 0 → DidAsAsked R.remaining W.contents
+        input.old input.new output.old output.new asked.now }
+    ensures well { result ≡ 0 → Keeps (E.contents error.old.device) (E.contents error.new.device) }
+    ensures told { result ≡ 1 → SaysOneOf (MayEndWith asked.now) E.contents error.old error.new }
+    ensures refused { result ≡ 2 → (input.new ≡ input.old) × (output.new ≡ output.old) }
+    ensures status { result ≤ 2 }
+{
+    match asked {
+        Asked::Replay => run_replay(rt.alloc(), input, output, error),
+        Asked::Serve(serving) => run_serve(rt, serving, output, error),
+        Asked::Check(checking) => run_check(rt, checking, output, error),
+        Asked::Told(text) => tell_text(text, output, error),
+    }
 }
 
 /// Runs the program `hole` with the arguments `words`, without its own name. Returns the exit
@@ -159,6 +191,7 @@ fn run_check<H: Files + Net + AllocGlobal, W: Write, E: Write>(
 ///   written
 ///
 /// If `error` can't be written, the exit status is the same.
+#[tactic(auto, using(crate::proofs::AskedLemmas::replay_did, crate::proofs::AskedLemmas::replay_says))]
 pub fn run<
     H: System + Files<File = File> + Net<Listener = TcpListener, Stream = TcpStream>,
     R: Read,
@@ -174,8 +207,10 @@ pub fn run<
     ensures replays { OnTrue (asks_replay (map (λ word. string_bytes word) words.now))
         (ReplaysAndExits R.remaining W.contents E.contents
         input.old input.new output.old output.new error.old error.new result) }
+    ensures done { result ≡ 0
+        → DidWhatIsAsked R.remaining W.contents input.old input.new output.old output.new }
     ensures well { result ≡ 0 → Keeps (E.contents error.old.device) (E.contents error.new.device) }
-    ensures told { result ≡ 1 → SaysFault E.contents error.old error.new }
+    ensures told { result ≡ 1 → SaysWhyAsked E.contents error.old error.new }
     ensures refused { result ≡ 2 → (input.new ≡ input.old) × (output.new ≡ output.old) }
     ensures status { result ≤ 2 }
 {
@@ -183,10 +218,7 @@ pub fn run<
         return run_replay(rt.alloc(), input, output, error);
     }
     match read_arguments(rt.alloc(), words) {
-        Ok(Asked::Replay) => run_replay(rt.alloc(), input, output, error),
-        Ok(Asked::Serve(serving)) => run_serve(rt, &serving, output, error),
-        Ok(Asked::Check(checking)) => run_check(rt, &checking, output, error),
-        Ok(Asked::Told(text)) => tell_text(&text, output, error),
+        Ok(asked) => run_asked(rt, &asked, input, output, error),
         Err(_refused) => tell_fault(error, ProgramFault::NoMemory),
     }
 }

@@ -1,9 +1,13 @@
 //! What a crawl prints of itself as it goes on and at its end.
 
+ghost use Rattle.std.specs.Prelude.{IfOk};
+ghost use Rattle.gopher_hole.specs.Shares.{KeepsAllParts};
+
 pub mod dropped;
 pub mod ending;
 pub mod listing;
 pub mod outs;
+pub mod telling;
 pub mod urls;
 
 use crate::failures::Failures;
@@ -12,6 +16,7 @@ use crate::progress::dropped::most_dropped;
 use crate::progress::ending::{CrawlEnd, found_places};
 use crate::progress::listing::write_list;
 use crate::progress::outs::Outs;
+use crate::progress::telling::{Sizes, StoppedWorkers, is_limit_due, newly_stopped};
 use crate::progress::urls::{HostPort, PlaceUrl};
 use gopher_catalogue::{Event, Status};
 use gopher_crew::{CrawlRefused, Crew, Desk, Share, WorkEnd, crawl};
@@ -43,9 +48,10 @@ pub struct Reporting<'a> {
     pub list_found: Option<&'a str>,
 }
 
-// Prints the sizes of a frontier and the number of failed places on the error stream. Takes no
-// memory, so that a crawl is seen to end when memory is gone.
-fn tell(rt: &impl Eprint, status: Status, failed: u64) {
+// Prints the sizes of a crawl on the error stream. Takes no memory, so that a crawl is seen to end
+// when memory is gone.
+fn tell(rt: &impl Eprint, sizes: Sizes) {
+    let Sizes { status, failed } = sizes;
     let Status {
         known,
         waiting,
@@ -58,24 +64,27 @@ fn tell(rt: &impl Eprint, status: Status, failed: u64) {
     );
 }
 
-// Prints on the error stream that the crawl reached its limit of memory, if it did, and returns
-// whether it did.
-fn tell_limit<C: Crew, R: Wait + Drop>(rt: &impl Eprint, desk: &Desk<C, R>) -> bool {
-    let is_reached = desk.pages_past_limit() > 0;
-    if is_reached {
+// Prints on the error stream that the crawl reached its limit of memory, if it did and that wasn't
+// told. Returns whether it is told now.
+fn tell_limit<C: Crew, R: Wait + Drop>(rt: &impl Eprint, desk: &Desk<C, R>, is_told: bool) -> bool {
+    let is_due = is_limit_due(is_told, desk.pages_past_limit());
+    if is_due {
         let _ = rt.eprintln("hole: the crawl reached --crawl-memory: it leaves pages out");
     }
-    is_reached
+    is_told || is_due
 }
 
 // Prints on the error stream how many workers stopped because memory ran out, if they are more than
-// `told`. Returns how many.
+// `told`. Returns how many are told now.
 fn tell_stopped<C: Crew, R: Wait + Drop>(rt: &impl Eprint, desk: &Desk<C, R>, told: u64) -> u64 {
-    let stopped = desk.stopped_workers();
-    if stopped > told {
-        let _ = eprintln!(rt; "hole: workers that stopped, out of memory: {stopped}");
+    match newly_stopped(told, desk.stopped_workers()) {
+        Some(count) => {
+            let stopped = StoppedWorkers { count };
+            let _ = eprintln!(rt; "{stopped}");
+            count
+        }
+        None => told,
     }
-    stopped
 }
 
 // Prints on the error stream each place that has been out for longer than ten seconds and wasn't
@@ -129,14 +138,15 @@ fn tell_until_over<C: Crew, R: Wait + Drop, W: Wait + Clock + Eprint>(
     let mut stopped = 0;
     for _round in rt.forever() {
         let was_over = wait_for_end(rt, desk, &reporting.state.outs, is_over, &mut stopped);
-        let (status, failed) = (desk.status(rt), failures.count());
-        if told != Some((status, failed)) {
-            tell(rt, status, failed);
-            told = Some((status, failed));
+        let sizes = Sizes {
+            status: desk.status(rt),
+            failed: failures.count(),
+        };
+        if sizes.are_due(told) {
+            tell(rt, sizes);
+            told = Some(sizes);
         }
-        if !is_limit_told {
-            is_limit_told = tell_limit(rt, desk);
-        }
+        is_limit_told = tell_limit(rt, desk, is_limit_told);
         if was_over {
             failures.tell_unprinted(rt);
             return;
@@ -230,6 +240,43 @@ fn report_end<C: Crew, R: Wait + Drop, W: Wait + Clock + Eprint + Files>(
     }
 }
 
+// Crawls. If the workers begin with all parts of the desk's ledger, they end with all of them.
+#[tactic(auto, using(crate::proofs::Parts::keeps_all))]
+fn crawl_whole<
+    'a,
+    C: Crew + Send + Sync,
+    R: Wait + Drop + Send + Sync,
+    W: Net<Listener = TcpListener, Stream = TcpStream> + Threads + Wait + Clock + Eprint + Sync,
+>(
+    rt: &W,
+    alloc: Global,
+    desk: &Desk<C, R>,
+    pairs: Vec<(CrawlFetch<'a>, Share<C>)>,
+) -> Result<Vec<WorkEnd<CrawlFetch<'a>, C>>, CrawlRefused<CrawlFetch<'a>, C>>
+    ensures { IfOk result (λ ends. KeepsAllParts pairs.entry.items ends.items) }
+{
+    crawl(rt, alloc, desk, pairs)
+}
+
+// Crawls, and then prints that the crawl reached its limit of memory, if it did.
+fn crawl_alone<
+    'a,
+    C: Crew + Send + Sync,
+    R: Wait + Drop + Send + Sync,
+    W: Net<Listener = TcpListener, Stream = TcpStream> + Threads + Wait + Clock + Eprint + Sync,
+>(
+    rt: &W,
+    alloc: Global,
+    desk: &Desk<C, R>,
+    pairs: Vec<(CrawlFetch<'a>, Share<C>)>,
+) -> Result<Vec<WorkEnd<CrawlFetch<'a>, C>>, CrawlRefused<CrawlFetch<'a>, C>>
+    ensures { IfOk result (λ ends. KeepsAllParts pairs.entry.items ends.items) }
+{
+    let crawled = crawl_whole(rt, alloc, desk, pairs);
+    tell_limit(rt, desk, false);
+    crawled
+}
+
 // Crawls, and prints the sizes of the crawl beside it.
 fn crawl_beside<
     'a,
@@ -242,14 +289,16 @@ fn crawl_beside<
     desk: &Desk<C, R>,
     pairs: Vec<(CrawlFetch<'a>, Share<C>)>,
     reporting: Reporting<'_>,
-) -> Result<Vec<WorkEnd<CrawlFetch<'a>, C>>, CrawlRefused<CrawlFetch<'a>, C>> {
+) -> Result<Vec<WorkEnd<CrawlFetch<'a>, C>>, CrawlRefused<CrawlFetch<'a>, C>>
+    ensures { IfOk result (λ ends. KeepsAllParts pairs.entry.items ends.items) }
+{
     let over = AtomicBool::new(false);
     let is_over = &over;
     let (_told, crawled) = thread::join(
         rt,
         move || tell_until_over(rt, desk, reporting, is_over),
         move || {
-            let crawled = crawl(rt, alloc, desk, pairs);
+            let crawled = crawl_whole(rt, alloc, desk, pairs);
             is_over.store(true, Ordering::SeqCst);
             crawled
         },
@@ -282,14 +331,14 @@ pub fn crawl_and_tell<
     desk: &Desk<C, R>,
     pairs: Vec<(CrawlFetch<'a>, Share<C>)>,
     reporting: Reporting<'_>,
-) -> Result<Vec<WorkEnd<CrawlFetch<'a>, C>>, CrawlRefused<CrawlFetch<'a>, C>> {
+) -> Result<Vec<WorkEnd<CrawlFetch<'a>, C>>, CrawlRefused<CrawlFetch<'a>, C>>
+    ensures { IfOk result (λ ends. KeepsAllParts pairs.entry.items ends.items) }
+{
     let began = Instant::now(rt);
     let crawled = if reporting.state.failures.are_told {
         crawl_beside(rt, alloc, desk, pairs, reporting)
     } else {
-        let crawled = crawl(rt, alloc, desk, pairs);
-        tell_limit(rt, desk);
-        crawled
+        crawl_alone(rt, alloc, desk, pairs)
     };
     if crawled.is_ok() {
         report_end(rt, alloc, desk, reporting, began);

@@ -40,7 +40,11 @@ fn count_before(best: &[Ranked], candidate: &Ranked) -> usize
     ensures within { result ≤ length best.now }
     ensures before { RankBefore candidate.now best.now result }
 {
-    best.partition_point(|other| rank(candidate, other).is_gt())
+    match best.last() {
+        // Pages of one score often come in place order.
+        Some(last) if rank(candidate, last).is_gt() => best.len(),
+        _ => best.partition_point(|other| rank(candidate, other).is_gt()),
+    }
 }
 
 // Returns whether the one at `index` has the same rank as the candidate.

@@ -229,7 +229,7 @@ impl Index {
     {
         let terms = query.terms();
         if is_light(terms, self.words, large_len(&self.parts)) {
-            let hits = search(alloc, &self.parts, terms)?;
+            let hits = search(alloc, &self.parts, query)?;
             return Ok(Begun::Found(hits));
         }
         let search = Search::new(alloc, &self.parts, terms)?;

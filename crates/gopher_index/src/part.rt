@@ -129,6 +129,16 @@ impl Part {
         }
     }
 
+    /// Returns the page, if the part is a page that was found.
+    pub fn as_page(&self) -> Option<&Arc<Page>>
+        ensures { IfSome result (λ page. self.now.pages ≡ arc_value page.now ∷ []) }
+    {
+        match &self.held {
+            Held::Page(page) => Some(page),
+            Held::Segment(_) => None,
+        }
+    }
+
     /// Returns the segment, unless the part is a page that was found.
     pub fn as_segment(&self) -> Option<&Arc<Segment>> {
         match &self.held {

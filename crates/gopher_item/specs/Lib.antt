@@ -8,3 +8,4 @@ pub mod Menu
 pub mod Request
 pub mod Rule
 pub mod Scope
+pub mod Leads

@@ -1,5 +1,5 @@
 -- Any number of steps, one after another.
-use Rattle.gopher_serve.specs.Leads.{Leads, stays, goes}
+use Rattle.gopher_item.specs.Leads.{Leads, stays, goes}
 
 pub leads_stays : {A : Type 0} (step : A → A → Type 0) (a : A) → Leads step a a
 leads_stays step a = stays

@@ -6,3 +6,4 @@ pub mod StepLemmas
 pub mod StopLemmas
 pub mod PauseLemmas
 pub mod PutBack
+mod ServedLemmas

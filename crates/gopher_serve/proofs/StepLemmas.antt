@@ -1,11 +1,11 @@
 -- A conversation after steps agrees with the bytes that came in, the reply that was given, and the bytes that went out.
-use Rattle.std.proofs.Common.{◌≡◌, ℕ, ◌+◌, ◌⊎◌, inl, inr, Bool, true, false, List, [], ◌++◌, length, take, drop, nat_le, Option, None, Some, IfSome, refl, sym, ap, ◌∙◌, subst, append-nil, append_assoc}
+use Rattle.std.proofs.Common.{◌≡◌, ℕ, ◌⊎◌, inl, inr, Bool, true, false, List, [], ◌++◌, length, take, drop, nat_le, Option, None, Some, IfSome, refl, sym, ap, ◌∙◌, subst, append-nil, append_assoc}
 use Rattle.std.specs.Io.BufRead.{first_line}
 use Rattle.std.specs.Io.KnownBytes.{Consumes, IsAtEnd}
 use Rattle.std.proofs.KnownBytes.{Appends-nil, Appends-trans, Appends-kept, Consumes-trans, Consumes-kept}
 use Rattle.std.proofs.Math.Seq.{take-add}
 use Rattle.gopher_text.specs.Watched.{WatchedData}
-use Rattle.gopher_serve.specs.Leads.{Leads}
+use Rattle.gopher_item.specs.Leads.{Leads}
 use Rattle.gopher_serve.specs.Talk.{Talk, Gathers, Asks, IsTooLong, LacksMemory, Responds, Hears, HasHeard, HoldsReply, is_known, spoken_of, talk_of}
 use Rattle.gopher_serve.specs.Advance.{HearsPiece, HearsEnd, HasTaken, HearsOn, HearsOnce, AsksOnce, SaysOnce, IsGiven, GivesOn, SaysOn}
 use Rattle.gopher_serve.specs.declared.advancing.Progress.{Progress}

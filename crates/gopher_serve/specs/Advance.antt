@@ -7,7 +7,7 @@ use Rattle.std.specs.declared.io.ErrorKind.TheVariants as kind
 use Rattle.std.specs.Io.KnownBytes.{Consumes, IsAtEnd, Keeps}
 use Rattle.gopher_bytes.specs.declared.line.TheConstants.{MAX_LINE}
 use Rattle.gopher_text.specs.Watched.{WatchedData, CountsFailure, HasFailed, HasRead, HasSent}
-use Rattle.gopher_serve.specs.Leads.{Leads}
+use Rattle.gopher_item.specs.Leads.{Leads}
 use Rattle.gopher_serve.specs.Talk.{Talk, Gathers, Asks, IsTooLong, LacksMemory, Responds, Hears, HasHeard, HoldsReply, IsAnswering, OnlySearches, heard, said, spoken_of, sendable_of, sent_of, steps_of, unsent_of}
 use Rattle.gopher_serve.specs.declared.fault.ServeFault.{ServeFault}
 use Rattle.gopher_serve.specs.declared.fault.ServeFault.TheVariants.{LineTooLong, ReadFailed, TooManyTurns, WriteFailed, NoMemory}

@@ -2,7 +2,7 @@
 
 ghost use Rattle.std.specs.Prelude.{◌≡◌, ◌<◌, ◌≤◌, ◌+◌, ◌^◌, length, IfOk, OnErr};
 ghost use Rattle.gopher_serve.specs.Advance.{AsksOnce, HearsOnce, HearsOutcome, IsAsked, IsProgressAfter, Listens, Records, Says, SaysOnce, progress_after};
-ghost use Rattle.gopher_serve.specs.Leads.{Leads};
+ghost use Rattle.gopher_item.specs.Leads.{Leads};
 ghost use Rattle.gopher_serve.specs.Talk.{sent_of, unsent_of};
 ghost use Rattle.gopher_serve.specs.declared.fault.ServeFault.TheVariants.{ReadFailed, WriteFailed};
 

@@ -2,7 +2,7 @@
 
 ghost use Rattle.std.specs.Prelude.{◌≡◌, ◌<◌, length};
 ghost use Rattle.gopher_serve.specs.Advance.{GivesOn, HearsOn, SaysOn, Stops};
-ghost use Rattle.gopher_serve.specs.Leads.{Leads};
+ghost use Rattle.gopher_item.specs.Leads.{Leads};
 ghost use Rattle.gopher_serve.specs.Talk.{IsAnswering, steps_of};
 ghost use Rattle.gopher_serve.specs.declared.advancing.Progress.TheVariants.{Works};
 

@@ -21,6 +21,7 @@ mod conversing;
 mod fault;
 mod hits;
 mod kept;
+pub mod laws;
 mod replies;
 
 pub use advancing::{Progress, advance};

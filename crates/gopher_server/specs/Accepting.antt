@@ -84,3 +84,10 @@ abbrev pub failure_of : ℕ → Bool → ℕ → AcceptFailure
 failure_of error was_short lost =
     if is_short error then (if was_short then failure.StaysShort else failure.IsShort)
     else (if is_lost error then loss_after lost else failure.IsBroken)
+
+-- whether a failed accept says that descriptors or memory are short; connections that are lost say
+-- nothing of that, however many
+abbrev pub is_shortage : AcceptFailure → Bool
+is_shortage failure.IsShort = true
+is_shortage failure.StaysShort = true
+is_shortage _ = false

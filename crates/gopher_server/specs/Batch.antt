@@ -1,10 +1,11 @@
 -- Lines of requests that are gathered before they are written, and what a write leaves of them.
-use Rattle.std.specs.Prelude.{◌≡◌, ◌⊎◌, ℕ, ◌+◌, ◌&&◌, ◌==◌, Bool, true, false, List, [], ◌++◌, codes, length, take, drop, min, nat_le, Option, Result, Ok, Err, if◌then◌else◌}
+use Rattle.std.specs.Prelude.{◌≡◌, ℕ, ◌+◌, ◌&&◌, ◌==◌, Bool, true, false, List, [], ◌++◌, codes, length, take, drop, min, nat_le, Option, Result, Ok, Err, if◌then◌else◌}
 use Rattle.std.specs.Fmt.{decimal}
 use Rattle.std.specs.Io.KnownBytes.{Appends, Keeps}
 use Rattle.std.specs.declared.io.ErrorKind.{ErrorKind}
 use Rattle.std.specs.declared.io.ErrorKind.TheVariants as kind
 use Rattle.gopher_server.specs.RequestLine.{RequestData, logged_bytes}
+use Rattle.gopher_server.specs.declared.logging.queue.Receipt.{Receipt}
 
 -- the lines, as bytes, and the number of requests that were dropped since the last of them
 pub record BatchData : Type 0 where
@@ -33,11 +34,13 @@ with_line batch request =
 abbrev pub with_request : BatchData → RequestData → BatchData
 with_request batch request = if is_full batch then batch else with_line batch request
 
--- the line of a request was added to a batch that isn't full, or the request was counted as dropped
-abbrev pub AddsRequestTo : RequestData → BatchData → BatchData → Type 0
-AddsRequestTo request before after =
-    ((is_full before ≡ false) × (after ≡ with_line before request))
-    ⊎ (after ≡ with_dropped before)
+-- the line of a request was added to a batch that isn't full
+abbrev pub AddsLineTo : RequestData → BatchData → BatchData → Type 0
+AddsLineTo request before after = (is_full before ≡ false) × (after ≡ with_line before request)
+
+-- the receipt for a batch that the queue took
+abbrev pub receipt_of : BatchData → Receipt
+receipt_of batch = record { bytes = length batch.written; dropped = batch.dropped }
 
 -- the lines, followed by the line of the dropped requests, if any were dropped
 abbrev pub with_told : BatchData → BatchData

@@ -2,9 +2,9 @@
 use Rattle.std.specs.Prelude.{◌≡◌, ℕ, ◌+◌, ◌-◌, ◌^◌, ◌≤◌, ◌==◌, length, min, nat_eq, nat_le, Bool, false, not, ◌&&◌, if◌then◌else◌, List, [], ◌∷◌, ◌++◌, Option, None, Some}
 use Rattle.std.specs.Borrow.{Fml, LendsIf, MutBor, RattleType}
 use Rattle.std.specs.List.{filter, list_any}
-use Rattle.std.specs.Option.{is_some}
+use Rattle.std.specs.Option.{is_some, option_map, option_or}
 use Rattle.std.specs.Map.{lookup, remove_entry, set_value}
-use Rattle.lru.specs.LruCache.{LruCache, lru_cache, promoted, put_entries}
+use Rattle.lru.specs.LruCache.{LruCache, last_entry, lru_cache, promoted, put_entries}
 use Rattle.gopher_server.specs.declared.decisions.held.Held.{Held}
 use Rattle.gopher_server.specs.contracts.decisions.held.Held.{the_row}
 use Rattle.gopher_serve.specs.declared.advancing.Progress.{Progress}
@@ -17,6 +17,10 @@ foremost (x ∷ xs) = Some x
 -- the keys without this one
 abbrev pub without_key : ℕ → List ℕ → List ℕ
 without_key key keys = filter (λ other. not (other == key)) keys
+
+-- the deadlines without those of this key
+abbrev pub without_deadline : ℕ → List (ℕ × ℕ) → List (ℕ × ℕ)
+without_deadline key pairs = filter (λ pair. not (pair.0 == key)) pairs
 
 -- whether a key is among these
 abbrev pub has_key : ℕ → List ℕ → Bool
@@ -46,6 +50,27 @@ deadlines held = held.deadlines.items
 -- all connections in their order, the most recently used first
 abbrev pub held_entries : {T : Type 0} → Held T → List (ℕ × T)
 held_entries held = held.connections.entries
+
+-- those that have asked nothing yet, the most recently used first: pairs of a key and an empty
+-- value
+abbrev pub silent : {T : Type 0} → Held T → List (ℕ × Unit {0})
+silent held = held.silent.entries
+
+-- with the one at a key as the first of those that have asked nothing, if it is held
+abbrev pub silent_with : {T : Type 0} → Held T → ℕ → LruCache ℕ (Unit {0})
+silent_with held key =
+    if is_some (lookup (nat_eq key) (held_entries held))
+    then lru_cache (put_entries nat_eq held.silent key tt) held.silent.cap
+    else held.silent
+
+-- the key of the one that was used least recently
+abbrev pub used_last : {X : Type 0} → List (ℕ × X) → Option ℕ
+used_last entries = option_map (λ pair. pair.0) (last_entry entries)
+
+-- the connection that is closed if room is needed: the one that was used least recently, of those
+-- that have asked nothing if there are any
+abbrev pub victim : {T : Type 0} → Held T → Option ℕ
+victim held = option_or (used_last (silent held)) (used_last (held_entries held))
 
 -- the connection at a key, if there is one
 abbrev pub connection : {T : Type 0} → Held T → ℕ → Option T

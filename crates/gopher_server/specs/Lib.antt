@@ -7,3 +7,5 @@ pub mod Rests
 pub mod Held
 pub mod Waits
 pub mod Unread
+pub mod Clients
+pub mod SendBuffer

@@ -1,7 +1,7 @@
 -- How long a server thread may wait for events, in milliseconds.
-use Rattle.std.specs.Prelude.{◌≡◌, ℕ, ◌*◌, ◌-◌, ◌==◌, ◌&&◌, ◌++◌, length, min, Bool, if◌then◌else◌, Option, Some}
+use Rattle.std.specs.Prelude.{◌≡◌, ℕ, ◌*◌, ◌-◌, ◌==◌, ◌&&◌, ◌||◌, ◌++◌, length, min, Bool, true, if◌then◌else◌, Option, Some}
 use Rattle.std.specs.Duration.{as_nanos}
-use Rattle.std.specs.Option.{is_some, option_map, option_to_list}
+use Rattle.std.specs.Option.{is_some, option_map, option_to_list, unwrap_or}
 use Rattle.std.specs.declared.time.Duration.{Duration}
 use Rattle.std.specs.List.{reduce}
 use Rattle.gopher_server.specs.Accepting.{has_ended, pause_end}
@@ -26,11 +26,21 @@ longest_wait searches resume deadline log now =
     let until = option_map (λ time. time - now) (shorter resume deadline) in
     if searches then Some 0 else shorter until log
 
--- a thread waits as long as it may, by its connections, its accepting and the lines of its log, at
--- some time of its clock
-abbrev pub IsLongestWait : {T : Type 0} → Held T → Accepting → ThreadLog → Option Duration → Type 0
-IsLongestWait held state thread_log wait =
+-- a thread has something to do at a time: at the end of its pause, or at a deadline
+abbrev pub has_times : {T : Type 0} → Accepting → Held T → Bool
+has_times state held = is_some (pause_end state) || is_some (foremost (deadlines held))
+
+-- the time is there if a thread has something to do at a time
+abbrev pub HasNeededTime : {T : Type 0} → Accepting → Held T → Option ℕ → Type 0
+HasNeededTime state held now = has_times state held ≡ true → is_some now ≡ true
+
+-- a thread waits as long as it may at this time of its clock, by its connections, its accepting and
+-- the lines of its log
+abbrev pub IsLongestWait : {T : Type 0} → Held T → Accepting → ThreadLog → Option ℕ
+    → Option Duration → Type 0
+IsLongestWait held state thread_log now wait =
     let searches = is_some (foremost (queue held)) in
     let deadline = option_map (λ pair. pair.1) (foremost (deadlines held)) in
-    (now : ℕ) × (option_map as_nanos wait ≡ option_map (λ millis. millis * 1_000_000)
-    (longest_wait searches (pause_end state) deadline (log.poll_timeout thread_log.batch) now))
+    option_map as_nanos wait ≡ option_map (λ millis. millis * 1_000_000)
+    (longest_wait searches (pause_end state) deadline (log.poll_timeout thread_log.batch)
+    (unwrap_or now 0))

@@ -6,14 +6,15 @@ ghost use Rattle.gopher_server.specs.declared.decisions.accepting.Accepting.TheV
 ghost use Rattle.gopher_server.specs.declared.decisions.accepting.AcceptDuty.TheVariants.{End};
 ghost use Rattle.gopher_server.specs.declared.decisions.accepting.AcceptEvent.TheVariants.{Ends};
 
-use crate::decisions::{AcceptDuty, AcceptEvent, Accepting, FIRST_LISTENER, Places};
+use crate::decisions::{AcceptDuty, AcceptEvent, Accepting, Clients, FIRST_LISTENER, Places};
 use libc::net::{EPOLL_CTL_ADD, EPOLL_CTL_DEL, EPOLLIN};
 use mio::net::{TcpListener, TcpStream};
 use mio::{Poll, Waker};
+use std::alloc::AllocError;
 use std::io;
 use std::net::SocketAddr;
 use std::os::fd::AsRawFd;
-use std::sync::Arc;
+use std::sync::{Arc, Mutex, Wait};
 
 /// The most listeners of a server.
 pub const MAX_LISTENERS: usize = 1_024;
@@ -21,15 +22,31 @@ pub const MAX_LISTENERS: usize = 1_024;
 // Wakes one thread for each connection instead of all (`EPOLLEXCLUSIVE` of Linux).
 const EPOLLEXCLUSIVE: u32 = 1 << 28;
 
-/// The state that all server threads share: how many connections they hold and accept together, and
-/// the waker of each thread.
+/// The state that all server threads share: how many connections they hold and accept together, how
+/// many they hold of each network, and the waker of each thread.
 #[derive(Drop)]
 pub(crate) struct ServerShared {
     pub(crate) places: Places,
+    pub(crate) clients: Mutex<Clients>,
     pub(crate) wakers: Vec<Waker>,
 }
 
 impl ServerShared {
+    /// Counts one more connection of a network, unless it has as many as it may. Returns whether it
+    /// did.
+    ///
+    /// # Errors
+    ///
+    /// Out of memory: none is counted.
+    pub(crate) fn take_client(&self, rt: &impl Wait, network: u64) -> Result<bool, AllocError> {
+        self.clients.lock(rt).take(network)
+    }
+
+    /// Counts one connection of a network fewer.
+    pub(crate) fn give_back_client(&self, rt: &impl Wait, network: u64) {
+        self.clients.lock(rt).give_back(network);
+    }
+
     /// Wakes all threads, so that each looks at the shared state again.
     pub(crate) fn wake_all(&self) {
         for waker in self.wakers.iter() {

@@ -1,13 +1,14 @@
 //! One connection with a client.
 
-ghost use Rattle.std.specs.Prelude.{◌≡◌, ◌≢◌, ◌&&◌, ◌||◌, false, length, nat_lt, not, true};
+ghost use Rattle.std.specs.Prelude.{◌≡◌, ◌≢◌, ◌&&◌, ◌||◌, false, length, nat_lt, not, true, None};
 ghost use Rattle.std.specs.Option.{is_some};
 ghost use Rattle.gopher_serve.specs.Talk.{asked_of};
 ghost use Rattle.gopher_serve.specs.declared.advancing.Progress.TheVariants.{Done, Paused};
 ghost use Rattle.gopher_server.specs.RequestLine.{search_of};
+ghost use Rattle.gopher_server.specs.ThreadLog.{LogsRequest};
 ghost use Rattle.gopher_server.specs.Unread.{CutsVisibly, IsHandedOver, IsWhole, SaysAll};
 
-use crate::logging::{Accepted, ThreadLog, search_of};
+use crate::logging::{Accepted, RequestEnd, ThreadLog, search_of};
 use crate::request_reader::RequestReader;
 use crate::send_buffer::ReplyWriter;
 use gopher_serve::{Answers, Conversation, Progress, ServeFault, advance, converse};
@@ -52,6 +53,8 @@ pub(crate) struct Answering<A: Drop> {
 pub(crate) struct Connection<'a> {
     stream: TcpStream,
     pub(crate) conversation: Conversation<'a>,
+    /// The number of its client's network.
+    pub(crate) network: u64,
     accepted: Option<Accepted>,
     // How many bytes of its request were read and are still in the system's queue. While there are
     // some, it is reset if it is closed or the process ends. They are taken once the system has the
@@ -86,7 +89,7 @@ fn lingers_after(has_ended: bool, sent: usize) -> bool
 fn hear<'a, A: Answers<'a> + Drop>(
     conversation: &mut Conversation<'a>,
     answering: &mut Answering<A>,
-    reader: &mut Watched<RequestReader<'_>>,
+    reader: &mut Watched<&mut RequestReader<'_>>,
 ) -> Progress
     ensures asked { result ≡ Paused → is_some (asked_of conversation.new) ≡ true }
     ensures ends { result ≢ Done }
@@ -110,6 +113,25 @@ fn hear<'a, A: Answers<'a> + Drop>(
     Progress::Failed(ServeFault::TooManyTurns)
 }
 
+// Reads the line of a conversation to the end; the progress is then `Paused`. If it is held back,
+// the progress is `Works` if the line has a long search string. Returns the progress, and how many
+// bytes of the request the reader left in the system's queue.
+fn listen<'a, A: Answers<'a> + Drop>(
+    conversation: &mut Conversation<'a>,
+    answering: &mut Answering<A>,
+    reader: &mut RequestReader<'_>,
+    is_held_back: bool,
+) -> (Progress, usize)
+    ensures ends { result.0 ≢ Done }
+    ensures unread { result.1 ≡ reader.new.unread }
+{
+    let heard = hear(conversation, answering, &mut Watched::new(&mut *reader));
+    match conversation.asked_line() {
+        Some(asked) if is_held_back && has_long_search(asked) => (Progress::Works, reader.unread),
+        _ => (heard, reader.unread),
+    }
+}
+
 // Takes what was read of a request out of the system's queue.
 fn take_request(mut stream: &TcpStream, buffer: &mut [u8; BUFFER_BYTES]) {
     for _read in 0..MAX_READS {
@@ -121,15 +143,18 @@ fn take_request(mut stream: &TcpStream, buffer: &mut [u8; BUFFER_BYTES]) {
 }
 
 impl<'a> Connection<'a> {
-    /// Makes a connection that has read nothing yet. `accepted` is there if its request is logged.
+    /// Makes a connection with a client of this network that has read nothing yet. `accepted` is
+    /// there if its request is logged.
     pub(crate) fn new(
         alloc: Global,
         stream: TcpStream,
+        network: u64,
         accepted: Option<Accepted>,
     ) -> Connection<'a> {
         Connection {
             stream,
             conversation: Conversation::new(alloc),
+            network,
             accepted,
             unread: 0,
             lingers: false,
@@ -137,6 +162,13 @@ impl<'a> Connection<'a> {
             reported: None,
             is_large: false,
         }
+    }
+
+    /// Returns whether it has asked something: its line is known.
+    pub(crate) fn has_asked(&self) -> bool
+        ensures { result ≡ is_some (asked_of self.now.conversation) }
+    {
+        self.conversation.asked_line().is_some()
     }
 
     // What it waits for. It waits for room to write only while it has a reply to send, and then for
@@ -186,7 +218,10 @@ impl<'a> Connection<'a> {
         }
         let mut progress = Progress::Paused;
         if self.conversation.asked_line().is_none() {
-            progress = self.listen(answering, is_held_back);
+            let mut reader = RequestReader::new(&self.stream, self.unread);
+            let heard = listen(&mut self.conversation, answering, &mut reader, is_held_back);
+            progress = heard.0;
+            self.unread = heard.1;
         }
         if progress == Progress::Paused {
             progress = self.talk(answering, may_enlarge);
@@ -198,34 +233,24 @@ impl<'a> Connection<'a> {
         }
     }
 
-    // Reads its line to the end; the progress is then `Paused`. If it is held back, the progress is
-    // `Works` if the line has a long search string.
-    fn listen<A: Answers<'a> + Drop>(
-        &mut self,
-        answering: &mut Answering<A>,
-        is_held_back: bool,
-    ) -> Progress
-        ensures ends { result ≢ Done }
-    {
-        let mut reader = Watched::new(RequestReader::new(&self.stream, self.unread));
-        let progress = hear(&mut self.conversation, answering, &mut reader);
-        self.unread = reader.into_inner().unread;
-        match self.conversation.asked_line() {
-            Some(asked) if is_held_back && has_long_search(asked) => Progress::Works,
-            _ => progress,
-        }
-    }
-
-    /// Adds its request to the log, unless that was done or no line was asked.
+    /// Adds its request to the log, unless that was done or no line was asked. If a clock can't be
+    /// read, counts it as dropped.
     pub(crate) fn log_request<R: Wait + Clock>(
         &mut self,
         rt: &R,
         alloc: Global,
         log: &mut ThreadLog,
-    ) {
+    )
+        ensures logged { LogsRequest self.old.accepted self.old.conversation log.old log.new }
+        ensures once { self.new.accepted ≡ None }
+    {
         let (asked, sent) = (self.conversation.asked_line(), self.conversation.sent_len());
-        if let (Some(accepted), Some(asked)) = (self.accepted.take(), asked) {
-            log.add(rt, alloc, accepted, asked, sent as u64);
+        let (Some(accepted), Some(asked)) = (self.accepted.take(), asked) else {
+            return;
+        };
+        match RequestEnd::now(rt) {
+            Some(end) => log.add(rt, alloc, accepted, asked, sent as u64, end),
+            None => log.drop_request(),
         }
     }
 

@@ -1,5 +1,6 @@
 //! A server thread. It accepts connections at all listeners and converses with clients over sockets
-//! that never block. When all places are taken, it closes the connection that was idle longest.
+//! that never block. When all places are taken, it closes a connection that has asked nothing, or
+//! else the one that was idle longest.
 //!
 //! Searches that take long are done in steps. While their queue isn't empty, a thread doesn't wait
 //! for events: in each round it handles all events first, then works for about a millisecond on the
@@ -13,8 +14,9 @@
 //! accepts nothing more, and that a connection takes its request out of that queue exactly when its
 //! reply is whole; otherwise only that calls are safe. `gopher_serve` promises what a client
 //! receives. Contracts of `decisions` say what the thread decides: how long it waits for events,
-//! when it accepts, which connection is closed, and which search is next. Contracts of `logging`
-//! say what a line of the log is, and which bytes of it are written.
+//! when it accepts, which connection is closed for room, how many connections a network has, and
+//! which search is next. Contracts of `logging` say what a line of the log is, when a request is
+//! dropped, and which bytes of it are written.
 #![tactic(auto)]
 
 mod acceptor;

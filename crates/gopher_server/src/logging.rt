@@ -25,5 +25,5 @@ mod writer;
 
 pub use queue::LogQueue;
 pub use request_line::search_of;
-pub use thread_log::{Accepted, ThreadLog};
+pub use thread_log::{Accepted, RequestEnd, ThreadLog};
 pub use writer::{Log, OpenLog, end_log, start_log};

@@ -1,5 +1,8 @@
 //! How many bytes of a reply the system queues for a client.
 
+ghost use Rattle.std.specs.Prelude.{◌≡◌};
+ghost use Rattle.gopher_server.specs.SendBuffer.{send_buffer_of};
+
 use libc::net::{SO_SNDBUF, SOL_SOCKET, setsockopt};
 use mio::net::{TcpListener, TcpStream};
 use std::io::{self, Write};
@@ -7,17 +10,41 @@ use std::os::fd::{AsRawFd, RawFd};
 
 // The most bytes of a reply that the system queues for a client. The system doubles the number for
 // its own use. It bounds the kernel memory of a client that reads nothing.
-const SEND_BUFFER: i32 = 65_536;
+const SEND_BUFFER: u32 = 65_536;
 
 // The same for the few clients of a thread that are sent a long reply by a larger queue. Each piece
 // that the system queues wakes the client once, and the server once more.
-const LARGE_SEND_BUFFER: i32 = 262_144;
+const LARGE_SEND_BUFFER: u32 = 262_144;
 
 // A reply is long if more than this is left of it. Less than this fits into an ordinary queue.
 const LONG_REPLY: usize = 114_688;
 
+// The most bytes that the system queues for all clients together, unless each has only the least
+// queue.
+const ALL_BUFFERS: u64 = 67_108_864;
+
+// The least queue of a client.
+const LEAST_BUFFER: u64 = 8_192;
+
+// How many bytes the system queues for a client at most while the server holds `held` connections.
+fn send_buffer_of(held: u64) -> u32
+    ensures { result ≡ send_buffer_of held }
+{
+    let share = ALL_BUFFERS / held.max(1);
+    share.max(LEAST_BUFFER).min(u64::from(SEND_BUFFER)) as u32
+}
+
+/// Limits the bytes that the system queues for a new client of a server that holds `held`
+/// connections. With few of them the limit of its listener stays.
+pub(crate) fn limit_send_buffer(stream: &TcpStream, held: u64) {
+    let bytes = send_buffer_of(held);
+    if bytes < SEND_BUFFER {
+        set_send_buffer(stream.as_raw_fd(), bytes);
+    }
+}
+
 // Sets the bytes that the system queues for a socket. If the system refuses, its own limit stays.
-fn set_send_buffer(socket: RawFd, bytes: i32) {
+fn set_send_buffer(socket: RawFd, bytes: u32) {
     let mut value = [0u8; 16];
     value[..4].copy_from_slice(&bytes.to_ne_bytes());
     let _refused = unsafe { setsockopt(socket, SOL_SOCKET, SO_SNDBUF, &value, 4) };

@@ -1,16 +1,18 @@
 //! A server thread at work (`serve`): accepting clients, and its round of events.
 
 ghost use Rattle.std.specs.Prelude.{◌≡◌};
-ghost use Rattle.gopher_server.specs.Waits.{IsLongestWait, has_no_work};
+ghost use Rattle.std.specs.Option.{is_some};
+ghost use Rattle.gopher_server.specs.Waits.{HasNeededTime, IsLongestWait, has_no_work, has_times};
 ghost use Rattle.gopher_server.specs.declared.decisions.accepting.Accepting.TheVariants.{Ended};
 ghost use Rattle.gopher_server.specs.declared.server.ThreadEnd.TheVariants.{Failed};
 
 use crate::acceptor::Acceptor;
 use crate::connection::{Answering, BUFFER_BYTES, Connection};
 use crate::decisions::{
-    AcceptEvent, AcceptFailure, Held, WAKER, failure_of, listeners_at, longest_wait,
+    AcceptEvent, AcceptFailure, Held, WAKER, failure_of, listeners_at, longest_wait, network_of,
 };
 use crate::logging::ThreadLog;
+use crate::send_buffer::limit_send_buffer;
 use crate::setup::ThreadSetup;
 use crate::thread_clock::ThreadClock;
 use gopher_serve::{Answers, Progress};
@@ -109,15 +111,16 @@ impl<'a, A: Answers<'a> + Drop> Server<'a, A> {
         was_short: bool,
     ) -> bool {
         let number = error.raw_os_error().unwrap_or(0).unsigned_abs();
-        match failure_of(number, was_short, self.acceptor.lost) {
+        let failure = failure_of(number, was_short, self.acceptor.lost);
+        match failure {
             AcceptFailure::IsLost => {
                 self.acceptor.lost = self.acceptor.lost.saturating_add(1);
                 return false;
             }
             AcceptFailure::IsShort => {
-                if let Some(key) = self.connections.idle_longest() {
+                if let Some(key) = self.connections.victim() {
                     self.close(rt, key);
-                    return true;
+                    return failure.is_shortage();
                 }
             }
             AcceptFailure::StaysShort | AcceptFailure::AreLost => {}
@@ -131,29 +134,60 @@ impl<'a, A: Answers<'a> + Drop> Server<'a, A> {
         let now = self.clock.now(rt);
         self.acceptor.lost = 0;
         self.acceptor.meet(&self.poll, AcceptEvent::IsShort, now);
-        true
+        failure.is_shortage()
     }
 
-    // Goes on with a new connection at once, and keeps it if it has to wait. Then makes room if
-    // there are too many.
+    // Goes on with a new connection at once, and holds it if it has to wait.
     fn welcome<R: Wait + Clock>(&mut self, rt: &R, stream: TcpStream, address: SocketAddr) {
         let alloc = self.answering.alloc;
-        let accepted = self.log.accept(rt, address.ip());
-        let mut connection: Connection<'a> = Connection::new(alloc, stream, accepted);
+        let peer = address.ip();
+        let accepted = self.log.accept(rt, peer);
+        limit_send_buffer(&stream, self.acceptor.shared.places.taken());
+        let mut connection: Connection<'a> = Connection::new(
+            alloc,
+            stream,
+            network_of(peer),
+            accepted,
+        );
         let may_enlarge = self.connections.may_enlarge();
         let is_held_back = self.connections.next_search().is_some();
         match connection.go_on(&mut self.answering, may_enlarge, is_held_back) {
             Progress::Done | Progress::Failed(_) => {
                 connection.log_request(rt, alloc, &mut self.log);
             }
-            progress => match self.connections.take_in(connection) {
-                Ok(key) => {
-                    self.acceptor.shared.places.take();
-                    self.meet_progress(rt, key, progress);
-                    self.make_room(rt);
+            progress => self.hold(rt, connection, progress),
+        }
+    }
+
+    // Holds a connection that has to wait, unless its network has as many as it may.
+    fn hold<R: Wait + Clock>(&mut self, rt: &R, connection: Connection<'a>, progress: Progress) {
+        let mut connection = connection;
+        match self.acceptor.shared.take_client(rt, connection.network) {
+            Ok(true) => self.take_in(rt, connection, progress),
+            Ok(false) => connection.log_request(rt, self.answering.alloc, &mut self.log),
+            Err(_) => {
+                self.answering.is_short = true;
+                connection.log_request(rt, self.answering.alloc, &mut self.log);
+            }
+        }
+    }
+
+    // Takes in a connection that is counted for its network. Then makes room if there are too many.
+    fn take_in<R: Wait + Clock>(&mut self, rt: &R, connection: Connection<'a>, progress: Progress) {
+        let (is_silent, network) = (!connection.has_asked(), connection.network);
+        match self.connections.take_in(connection) {
+            Ok(key) => {
+                self.acceptor.shared.places.take();
+                if is_silent && self.connections.mark_silent(key).is_err() {
+                    return self.close(rt, key);
                 }
-                Err(mut refused) => refused.log_request(rt, alloc, &mut self.log),
-            },
+                self.meet_progress(rt, key, progress);
+                self.make_room(rt);
+            }
+            Err(mut refused) => {
+                self.acceptor.shared.give_back_client(rt, network);
+                refused.log_request(rt, self.answering.alloc, &mut self.log);
+            }
         }
     }
 
@@ -181,21 +215,36 @@ impl<'a, A: Answers<'a> + Drop> Server<'a, A> {
         self.acceptor.state.has_ended() && self.connections.len() == 0
     }
 
-    /// Returns the time, or 0 if it isn't needed: if nothing has a time, a round reads no clock.
-    pub(crate) fn time_if(&self, clock: &impl Clock, is_needed: bool) -> u64 {
-        if is_needed { self.clock.now(clock) } else { 0 }
+    /// Returns the time if it is needed: a round in which nothing has a time reads no clock.
+    pub(crate) fn time_if(&self, clock: &impl Clock, is_needed: bool) -> Option<u64>
+        ensures { is_some result ≡ is_needed }
+    {
+        if is_needed {
+            Some(self.clock.now(clock))
+        } else {
+            None
+        }
     }
 
-    // How long it may wait for events; `None` if it may wait until one comes.
-    fn poll_timeout(&self, clock: &impl Clock) -> Option<Duration>
-        ensures { IsLongestWait self.now.connections self.now.acceptor.state self.now.log result }
+    // Whether it has something to do at a time: at the end of its pause, or at a deadline.
+    fn has_times(&self) -> bool
+        ensures { result ≡ has_times self.now.acceptor.state self.now.connections }
+    {
+        let pause_end = self.acceptor.state.pause_end();
+        pause_end.is_some() || self.connections.first_deadline().is_some()
+    }
+
+    // How long it may wait for events at the time `now`; `None` if it may wait until one comes.
+    fn poll_timeout(&self, now: Option<u64>) -> Option<Duration>
+        requires { HasNeededTime self.now.acceptor.state self.now.connections now }
+        ensures { IsLongestWait self.now.connections self.now.acceptor.state self.now.log now
+            result }
     {
         let searches = self.connections.next_search().is_some();
         let resume = self.acceptor.state.pause_end();
         let deadline = self.connections.first_deadline();
         let log = self.log.poll_timeout();
-        let now = self.time_if(clock, resume.is_some() || deadline.is_some());
-        let wait = longest_wait(searches, resume, deadline, log, now)?;
+        let wait = longest_wait(searches, resume, deadline, log, now.unwrap_or(0))?;
         Some(Duration::from_millis(wait))
     }
 
@@ -203,7 +252,8 @@ impl<'a, A: Answers<'a> + Drop> Server<'a, A> {
     // leaves new ones to other threads while it holds many more than its share, and accepts again
     // when it doesn't, or when a pause is over.
     fn work<R: Wait + Clock + Eprint>(&mut self, rt: &R, events: &mut Events) -> io::Result<()> {
-        let timeout = self.poll_timeout(rt);
+        let now = self.time_if(rt, self.has_times());
+        let timeout = self.poll_timeout(now);
         self.poll.poll(events, timeout)?;
         for event in events.iter() {
             let is_gone = event.is_error() || event.is_write_closed();
@@ -219,7 +269,7 @@ impl<'a, A: Answers<'a> + Drop> Server<'a, A> {
         let now = self.time_if(rt, !self.acceptor.state.is_watching());
         let held = self.connections.len() as u64;
         let round = AcceptEvent::Round(self.acceptor.shared.places.leaves_to_others(held));
-        self.acceptor.meet(&self.poll, round, now);
+        self.acceptor.meet(&self.poll, round, now.unwrap_or(0));
         if self.log.poll_timeout().is_some() {
             if let Ok(now) = Instant::now(rt) {
                 self.log.hand_on_due(rt, self.answering.alloc, now);
@@ -262,7 +312,7 @@ impl<'a, A: Answers<'a> + Drop> Server<'a, A> {
         ensures end { self.new.end ≡ Failed }
     {
         for _closed in 0..self.connections.len() {
-            if let Some(key) = self.connections.idle_longest() {
+            if let Some(key) = self.connections.victim() {
                 self.close(rt, key);
             }
         }

@@ -1,7 +1,7 @@
 //! What server threads need of the system, made before they start (`set_up`).
 
 use crate::acceptor::{ServerShared, watch};
-use crate::decisions::{Places, WAKER, max_places};
+use crate::decisions::{Clients, Places, WAKER, max_of_network, max_places};
 use crate::logging::{LogQueue, ThreadLog};
 use gopher_item::NoMemory;
 use mio::net::TcpListener;
@@ -9,7 +9,7 @@ use mio::{Events, Poll, Token, Waker};
 use std::alloc::Global;
 use std::io;
 use std::net::Net;
-use std::sync::Arc;
+use std::sync::{Arc, Mutex};
 
 // The most events of one round.
 const MAX_EVENTS: usize = 256;
@@ -32,6 +32,8 @@ pub struct ServerSetup {
     pub requests: Option<u64>,
     /// How many connections they hold at once at most (`max_connections`).
     pub places: u64,
+    /// How many of these they hold of one address at most; a quarter of the places if `None`.
+    pub clients_per_address: Option<u64>,
     /// Where they hand on the lines of the log, if requests are logged.
     pub log: Option<Arc<LogQueue>>,
     /// Whether they print on the error stream why they fail.
@@ -141,7 +143,14 @@ pub fn set_up<R: Net>(
     let (polls, wakers) = polls_and_wakers(rt, alloc, threads)?;
     let listeners = Arc::new(alloc, server.listeners)?;
     let places = Places::new(server.places, server.requests);
-    let shared = Arc::new(alloc, ServerShared { places, wakers })?;
+    let most = max_of_network(server.places, server.clients_per_address);
+    let clients = Mutex::new(Clients::new(alloc, most));
+    let shared = ServerShared {
+        places,
+        clients,
+        wakers,
+    };
+    let shared = Arc::new(alloc, shared)?;
     let mut setups = Vec::with_capacity(alloc, threads)?;
     for poll in polls {
         let setup = setup_with(alloc, poll, &listeners, &shared, &server.log, server.tells)?;

@@ -33,14 +33,14 @@ impl<'a, A: Answers<'a> + Drop> Server<'a, A> {
         self.acceptor.shared.places.is_above_share(held)
     }
 
-    /// Closes the connections idle longest while all places are taken and this thread has more than
-    /// its share of them.
+    /// Closes connections while all places are taken and this thread has more than its share of
+    /// them: first those that have asked nothing, the one idle longest first.
     pub(crate) fn close_excess<R: Wait + Clock>(&mut self, rt: &R) {
         for _closed in 0..self.connections.len() {
             if !self.is_above_share() || !self.acceptor.shared.places.give_back_excess() {
                 return;
             }
-            if let Some(key) = self.connections.idle_longest() {
+            if let Some(key) = self.connections.victim() {
                 let _closed = self.take_out(rt, key);
             }
         }
@@ -51,6 +51,9 @@ impl<'a, A: Answers<'a> + Drop> Server<'a, A> {
         let Some(mut connection) = self.connections.end(key) else {
             return false;
         };
+        self.acceptor
+            .shared
+            .give_back_client(rt, connection.network);
         connection.log_request(rt, self.answering.alloc, &mut self.log);
         true
     }
@@ -70,7 +73,11 @@ impl<'a, A: Answers<'a> + Drop> Server<'a, A> {
             return;
         };
         let progress = connection.go_on(&mut self.answering, may_enlarge, is_held_back);
+        let has_asked = connection.has_asked();
         self.connections.touch(key);
+        if has_asked {
+            self.connections.mark_asked(key);
+        }
         self.meet_progress(rt, key, progress);
     }
 
@@ -114,7 +121,9 @@ impl<'a, A: Answers<'a> + Drop> Server<'a, A> {
 
     /// Closes the connections that lingered for their time.
     pub(crate) fn end_lingering<R: Wait + Clock>(&mut self, rt: &R) {
-        let now = self.time_if(rt, self.connections.first_deadline().is_some());
+        let Some(now) = self.time_if(rt, self.connections.first_deadline().is_some()) else {
+            return;
+        };
         for _closed in 0..u64::MAX {
             let Some(key) = self.connections.take_due(now) else {
                 return;

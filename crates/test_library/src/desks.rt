@@ -96,6 +96,13 @@ impl<C: Crew, R: Wait + Abort + AllocGlobal> Room<'_, C, R> {
         self.claims(1).expect(self.rt, "no note with ample memory")
     }
 
+    // With ample memory the whole record is published, and each reply had a note.
+    fn publishes(&self) {
+        let it = self.desk.published(self.rt);
+        assert!(self.rt; self.may_refuse || (it.published == it.events && it.failed == 0));
+        assert!(self.rt; self.may_refuse || self.share.missed() == 0);
+    }
+
     // The first pass hears of the page, and both see it.
     fn see_root(&mut self) {
         assert!(self.rt;
@@ -153,6 +160,9 @@ impl<C: Crew, R: Wait + Abort + AllocGlobal> Room<'_, C, R> {
         } = self;
         let host = Host::new(b"");
         let end = work(rt, rt.alloc(), &desk, Fetcher::new(&host, 0), share);
+        let it = desk.published(rt);
+        assert!(rt; may_refuse || (it.events, it.published, it.failed) == (5, 5, 0));
+        assert!(rt; may_refuse || end.share.missed() == 0);
         if end.stop == Stop::Finished {
             assert!(rt; desk.status(rt).done == 2);
             assert!(rt; sees(rt, may_refuse, &mut first, &query).0 == 5);
@@ -197,6 +207,7 @@ fn check<C: Crew, R: Wait + Abort + AllocGlobal>(
         );
     }
     room.see_root();
+    room.publishes();
     again!(
         rt,
         may_refuse,

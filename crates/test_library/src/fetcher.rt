@@ -1,6 +1,7 @@
 //! A fetcher over the replies of a host in memory.
 
 ghost use Rattle.std.specs.Prelude.{◌≡◌};
+ghost use Rattle.gopher_crew.specs.Rounds.{one_more_call};
 
 use gopher_catalogue::Why;
 use gopher_crew::{Calls, Fetch};
@@ -95,6 +96,8 @@ impl<'a> Fetcher<'a> {
 
 impl<'a> Calls for Fetcher<'a> {
     ghost called = { λ fetcher. fetcher.calls };
+
+    ghost fetches = { λ old new place limit outcome. new.calls ≡ one_more_call old.calls };
 
     fn calls(&self) -> u64 {
         self.calls

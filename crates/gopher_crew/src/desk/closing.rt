@@ -2,9 +2,10 @@
 
 ghost use Rattle.std.specs.Prelude.{◌≡◌, ◌≢◌, ◌+◌, ◌<◌, ◌^◌, [], vec_capacity, IfOk, IfErr, IsOk};
 ghost use mathlib.Core.List.{IsPrefix};
+ghost use Rattle.gopher_crew.specs.Admitted.{AllAdmitted};
 ghost use Rattle.gopher_crew.specs.Desk.{events_of, Closes, CountTheSame, HasAll, JoinsAll};
 
-use crate::crew::Crew;
+use crate::crew::{Admits, Crew};
 use crate::desk::Desk;
 use crate::desk::refusals::CloseRefused;
 use crate::desk::share::Share;
@@ -28,16 +29,18 @@ pub fn join<C: Crew>(book: &mut Book<C>, all: &mut Share<C>, shares: &mut Vec<Sh
     }
 }
 
-impl<C: Crew, R: Wait + Drop> Desk<C, R> {
+impl<C: Crew, R: Wait + Drop, A: Admits> Desk<C, R, A> {
     /// Closes the desk and returns its catalogue. With all shares that `open` returned, it never
     /// fails. The catalogue's record begins with the one that the desk was opened with and with
-    /// what each share saw, which includes all that passes told it (`Pass::tell`).
+    /// what each share saw, which includes all that passes told it (`Pass::tell`). Each outcome in
+    /// it is admitted.
     ///
     /// # Errors
     /// `CloseRefused` (62): the shares don't count all events of the record after the first. The
     /// error has the desk, and the shares merged into one.
-    pub fn close(self, shares: Vec<Share<C>>) -> Result<Catalogue, CloseRefused<C, R>>
+    pub fn close(self, shares: Vec<Share<C>>) -> Result<Catalogue, CloseRefused<C, R, A>>
         ensures closed { IfOk result (λ catalogue. Closes self shares.items catalogue) }
+        ensures admitted { IfOk result (AllAdmitted A.admits) }
         ensures events { IfErr result (λ refused. refused.events ≢ events_of shares.items) }
         ensures joined { IfErr result (λ refused. CountTheSame shares.items refused.shares.items) }
         ensures desk { IfErr result (λ refused. refused.desk ≡ self) }

@@ -6,37 +6,43 @@ ghost use Rattle.gopher_catalogue.specs.EventOf.{event_data};
 ghost use Rattle.gopher_catalogue.specs.Legal.{IsLegal};
 ghost use Rattle.gopher_catalogue.specs.Step.{status_of};
 ghost use Rattle.gopher_catalogue.specs.Turn.{turn_data};
-ghost use Rattle.gopher_crew.specs.Share.{Rises, RisesBy};
+ghost use Rattle.gopher_catalogue.specs.declared.event.EventData.TheVariants.{Found, Failed};
+ghost use Rattle.gopher_crew.specs.Admitted.{AllAdmitted, MayAdd};
+ghost use Rattle.gopher_crew.specs.Share.{CountsReply, Rises, RisesBy};
+ghost use Rattle.gopher_crew.specs.Publication.{CountsMissed, IsShown, IsPublishedOf};
 ghost use Rattle.gopher_crew.specs.Desk.{events_of, CountTheSame, HasAll, HasAllSeen};
-ghost use Rattle.gopher_crew.specs.Kept.{IsNoted, IsCall, rise_of, Claims, Finds, Fails, RefusesFind, RefusesFailure, LetsClaim, IsStatusOf, IsStatusAfter, IsRecordAfter};
+ghost use Rattle.gopher_crew.specs.Kept.{IsNoted, IsCall, rise_of, Later, Claims, Finds, Fails, RefusesFind, RefusesFailure, LetsClaim, IsStatusOf, IsStatusAfter, IsRecordAfter};
 
-use crate::crew::Crew;
+use crate::crew::{Admits, Crew};
 use crate::desk::closing::join;
 use crate::desk::share::Share;
-use crate::publication::Publication;
 use crate::publication::note::Note;
 use crate::publication::record_prefix::RecordPrefix;
+use crate::publication::{Publication, Published};
 use crate::working::merge_job::MergeJob;
 use crate::working::merging::Merging;
 use gopher_catalogue::{Added, Catalogue, Event, FailRefused, FoundRefused, Status, Turn, Why};
 use gopher_item::NoMemory;
 use gopher_page::Page;
 use std::alloc::Global;
-use std::marker::Model;
+use std::marker::{Model, PhantomData};
 use std::sync::Wait;
 use std::sync::ledger::Book;
 
 /// The catalogue of a crawl, the count of its events after the first, and its publication.
-/// Contracts see its record and the published one, which is a prefix of it.
+/// Contracts see its record, the published one, which is a prefix of it, and how many publications
+/// failed. The published record is the whole record unless one failed. Each outcome in the record
+/// is admitted.
 #[derive(Drop)]
-pub struct Kept<C: Crew, R: Wait + Drop> {
+pub struct Kept<C: Crew, R: Wait + Drop, A: Admits> {
     catalogue: Catalogue,
     book: Book<C>,
     publication: Publication<C, R>,
     merging: Merging,
+    rule: PhantomData<A>,
 }
 
-impl<C: Crew, R: Wait + Drop> Model for Kept<C, R> {
+impl<C: Crew, R: Wait + Drop, A: Admits> Model for Kept<C, R, A> {
     ghost use Rattle.std.specs.Prelude.{◌≡◌, ◌+◌, length};
     ghost use mathlib.Core.List.{IsPrefix};
     ghost use Rattle.gopher_catalogue.specs.Legal.{IsLegal};
@@ -44,9 +50,14 @@ impl<C: Crew, R: Wait + Drop> Model for Kept<C, R> {
 
     ghost Value = { PublicationData };
 
-    ghost view = { λ k. record { events = k.catalogue; published = k.publication.published } };
+    ghost view = { λ k. record {
+      events = k.catalogue;
+      published = k.publication.published;
+      failed = k.publication.failed;
+    } };
 
-    ghost invariant = { λ k. KeepsRecord k.catalogue k.publication k.book.total };
+    ghost invariant = { λ k. KeepsRecord A.admits k.catalogue k.publication
+        k.book.total };
 }
 
 // Counts the event of a turn, for the share and in the book. Only a turn that took a place has one.
@@ -55,6 +66,7 @@ fn count<C: Crew>(turn: &Turn, share: &mut Share<C>, book: &mut Book<C>)
     ensures events { share.new.events ≡ share.old.events + rise_of (turn_data turn.now) }
     ensures parts { share.new.parts ≡ share.old.parts }
     ensures seen { share.new.seen ≡ share.old.seen }
+    ensures missed { share.new.missed ≡ share.old.missed }
     ensures total { book.new.total ≡ book.old.total + rise_of (turn_data turn.now) }
 {
     match turn {
@@ -82,25 +94,28 @@ fn copy_events(alloc: Global, events: &[Event]) -> Result<Vec<Event>, NoMemory>
     Ok(copies)
 }
 
-impl<C: Crew, R: Wait + Drop> Kept<C, R> {
+impl<C: Crew, R: Wait + Drop, A: Admits> Kept<C, R, A> {
     /// What a desk keeps of a catalogue. Its whole record was entered and is published.
     pub(crate) fn new(
         catalogue: Catalogue,
         book: Book<C>,
         publication: Publication<C, R>,
-    ) -> Kept<C, R>
+    ) -> Kept<C, R, A>
         requires entered { publication.events ≡ catalogue }
         requires published { publication.published ≡ catalogue }
         requires legal { IsLegal catalogue }
+        requires admitted { AllAdmitted A.admits catalogue }
         requires counted { length catalogue ≡ book.total + 1 }
         ensures events { result.events ≡ catalogue }
         ensures published { result.published ≡ catalogue }
+        ensures failed { result.failed ≡ publication.failed }
     {
         Kept {
             catalogue,
             book,
             publication,
             merging: Merging::new(),
+            rule: PhantomData,
         }
     }
 
@@ -109,11 +124,14 @@ impl<C: Crew, R: Wait + Drop> Kept<C, R> {
     ///
     /// # Errors
     /// `NoMemory` (90), only if a place waits. Only what the share saw changes then.
-    #[tactic(auto, using(crate::proofs::Keeping::turn_keeps, crate::proofs::Keeping::turn_counts))]
+    #[tactic(auto, using(crate::proofs::Keeping::turn_keeps, crate::proofs::Keeping::turn_counts, crate::proofs::Admitting::turn_admitted))]
     pub fn claim(&mut self, share: &mut Share<C>) -> Result<(Turn, Option<Note<C>>), NoMemory>
         ensures call { IsCall self.old share.old self.new share.new }
         ensures turn { IfOk result (λ reply. Claims (turn_data reply.0) share.new self.old.events) }
         ensures note { IfOk result (λ reply. IsNoted reply.1 self.new) }
+        ensures counted { IfOk result (λ r. CountsMissed r.1 self.old.failed self.new.failed) }
+        ensures shown { IsShown self.new }
+        ensures missed { CountsReply (λ reply. reply.1) result share.old.missed share.new.missed }
         ensures share { RisesBy (λ it. rise_of (turn_data it.0)) result share.old share.new }
         ensures waits { OnErr result (LetsClaim share.new) }
         ensures err { OnErr result (self.new ≡ self.old) }
@@ -134,15 +152,20 @@ impl<C: Crew, R: Wait + Drop> Kept<C, R> {
     /// - `NotOut` (52): the number isn't out.
     /// - `WrongPlace` (53): the page is of another place.
     /// - `NoMemory` (90).
+    #[tactic(auto, using(crate::proofs::Admitting::added_admitted))]
     pub fn found(
         &mut self,
         share: &mut Share<C>,
         number: u32,
         page: Page,
     ) -> Result<(Added, Option<Note<C>>), FoundRefused>
+        requires { MayAdd A.admits share.old.seen (Found number page) }
         ensures call { IsCall self.old share.old self.new share.new }
         ensures found { IfOk result (λ reply. Finds number page reply.0 share.new self.old.events) }
         ensures note { IfOk result (λ reply. IsNoted reply.1 self.new) }
+        ensures counted { IfOk result (λ r. CountsMissed r.1 self.old.failed self.new.failed) }
+        ensures shown { IsShown self.new }
+        ensures missed { CountsReply (λ reply. reply.1) result share.old.missed share.new.missed }
         ensures share { RisesBy (λ _. 1) result share.old share.new }
         ensures refused { IfErr result (λ error. RefusesFind number page error.fault share.new) }
         ensures page_back { IfErr result (λ refused. refused.page ≡ page) }
@@ -161,15 +184,20 @@ impl<C: Crew, R: Wait + Drop> Kept<C, R> {
     ///
     /// # Errors
     /// `FailRefused` (52): the number isn't out. Only what the share saw changes then.
+    #[tactic(auto, using(crate::proofs::Admitting::added_admitted))]
     pub fn fail(
         &mut self,
         share: &mut Share<C>,
         number: u32,
         why: Why,
     ) -> Result<Option<Note<C>>, FailRefused>
+        requires { MayAdd A.admits share.old.seen (Failed number why) }
         ensures call { IsCall self.old share.old self.new share.new }
         ensures failed { OnOk result (Fails number why share.new self.old.events) }
         ensures note { IfOk result (λ note. IsNoted note self.new) }
+        ensures counted { IfOk result (λ it. CountsMissed it self.old.failed self.new.failed) }
+        ensures shown { IsShown self.new }
+        ensures missed { CountsReply (λ reply. reply) result share.old.missed share.new.missed }
         ensures share { RisesBy (λ _. 1) result share.old share.new }
         ensures refused { OnErr result (RefusesFailure number share.new) }
         ensures err { OnErr result (self.new ≡ self.old) }
@@ -213,6 +241,7 @@ impl<C: Crew, R: Wait + Drop> Kept<C, R> {
     pub(crate) fn renew(&mut self)
         ensures events { self.new.events ≡ self.old.events }
         ensures grows { IsPrefix self.old.published self.new.published }
+        ensures shown { IsShown self.new }
     {
         if self.merging.is_merged {
             let was_published = self.publication.publish(&self.catalogue, true);
@@ -268,6 +297,7 @@ impl<C: Crew, R: Wait + Drop> Kept<C, R> {
         ensures same { self.new ≡ self.old }
         ensures status { IsStatusOf result share.new.seen }
         ensures share { Rises 0 share.old share.new }
+        ensures missed { share.new.missed ≡ share.old.missed }
     {
         self.publication.show(share);
         self.status()
@@ -281,6 +311,15 @@ impl<C: Crew, R: Wait + Drop> Kept<C, R> {
     {
         self.until_begins(opened);
         self.status()
+    }
+
+    /// Returns how much of the record is published, which begins with the events of this token.
+    pub(crate) fn published_after(&self, opened: &RecordPrefix) -> Published
+        requires { opened.now.history ≡ C.history }
+        ensures { Later opened.now.events (IsPublishedOf result) }
+    {
+        self.until_begins(opened);
+        self.publication.published()
     }
 
     /// Copies the events of the record, which begins with those of this token.
@@ -303,12 +342,14 @@ impl<C: Crew, R: Wait + Drop> Kept<C, R> {
     pub fn end(self) -> Catalogue
         ensures record { result ≡ self.events }
         ensures legal { IsLegal self.events }
+        ensures admitted { AllAdmitted A.admits result }
     {
         let Kept {
             catalogue,
             book: _book,
             publication: _publication,
             merging: _merging,
+            rule: _rule,
         } = self;
         catalogue
     }

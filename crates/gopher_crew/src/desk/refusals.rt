@@ -2,13 +2,14 @@
 
 ghost use Rattle.std.specs.Prelude.{◌≡◌};
 
-use crate::crew::Crew;
+use crate::crew::{Admits, Crew};
 use crate::desk::Desk;
 use crate::desk::blank::Blank;
 use crate::desk::share::Share;
 use crate::fault::DeskFault;
 use gopher_catalogue::Catalogue;
 use std::fmt;
+use std::marker::Brand;
 use std::sync::Wait;
 use thiserror::Error;
 
@@ -36,16 +37,16 @@ impl fmt::Debug for DeskRefused {
 /// first.
 #[derive(Drop, Error)]
 #[error("the shares don't count all events of the record")]
-pub struct CloseRefused<C: Crew, R: Wait + Drop> {
+pub struct CloseRefused<C: Crew, R: Wait + Drop, A: Admits = Brand> {
     /// The desk, still open.
-    pub desk: Desk<C, R>,
+    pub desk: Desk<C, R, A>,
     /// The shares, merged into one.
     pub shares: Vec<Share<C>>,
     /// The number of events in the record after the first.
     pub events: u64,
 }
 
-impl<C: Crew, R: Wait + Drop> CloseRefused<C, R> {
+impl<C: Crew, R: Wait + Drop, A: Admits> CloseRefused<C, R, A> {
     /// Returns the number of this fault, 62.
     pub fn code(&self) -> u8
         ensures { result ≡ 62 }
@@ -54,7 +55,7 @@ impl<C: Crew, R: Wait + Drop> CloseRefused<C, R> {
     }
 }
 
-impl<C: Crew, R: Wait + Drop> fmt::Debug for CloseRefused<C, R> {
+impl<C: Crew, R: Wait + Drop, A: Admits> fmt::Debug for CloseRefused<C, R, A> {
     fn fmt<W: fmt::Write>(&self, f: &mut fmt::Formatter<W>) -> fmt::Result {
         f.debug_struct("CloseRefused")
             .field("events", &self.events)

@@ -1,24 +1,27 @@
-//! `Share`: how many of a desk's events a worker made, and which record its last reply was on.
+//! `Share`: how many of a desk's events a worker made, which record its last reply was on, and how
+//! many replies had no note.
 
 ghost use Rattle.std.specs.Prelude.{◌≡◌, ◌+◌, ◌<◌, ◌≤◌, ◌^◌, false, IsTrue};
 ghost use mathlib.Core.List.{IsPrefix};
-ghost use Rattle.gopher_crew.specs.Share.{Rises};
+ghost use Rattle.gopher_crew.specs.Share.{CountsNote, Rises};
 
 use crate::crew::Crew;
+use crate::publication::note::Note;
 use crate::publication::record_prefix::RecordPrefix;
 use std::fmt;
 use std::marker::Model;
 use std::sync::Wait;
 use std::sync::ledger::{Book, Share as Part};
 
-/// A share of a desk's ledger. It counts the events that its holder made at the desk, and has the
-/// token of what it saw: the record that the last reply to its holder was on, or a longer one that
-/// a pass told it of.
+/// A share of a desk's ledger. It counts the events that its holder made at the desk, and the
+/// replies that had no note. It has the token of what it saw: the record that the last reply to its
+/// holder was on, or a longer one that a pass told it of.
 #[derive(Drop)]
 pub struct Share<C: Crew> {
     count: u64,
     part: Part<C>,
     seen: RecordPrefix,
+    missed: u64,
 }
 
 impl<C: Crew> Model for Share<C> {
@@ -31,6 +34,7 @@ impl<C: Crew> Model for Share<C> {
       events = s.part.amount;
       parts = s.part.parts;
       seen = s.seen.events;
+      missed = s.missed;
     } };
 
     ghost invariant = { λ s. ((s.count ≡ s.part.amount) × (0 < s.part.parts))
@@ -54,8 +58,14 @@ impl<C: Crew> Share<C> {
         ensures events { result.events ≡ part.amount }
         ensures parts { result.parts ≡ part.parts }
         ensures seen { result.seen ≡ seen.events }
+        ensures missed { result.missed ≡ 0 }
     {
-        Share { count, part, seen }
+        Share {
+            count,
+            part,
+            seen,
+            missed: 0,
+        }
     }
 
     /// Returns the number of events that it counts.
@@ -63,6 +73,14 @@ impl<C: Crew> Share<C> {
         ensures { result ≡ self.now.events }
     {
         self.count
+    }
+
+    /// Returns how many replies to its holder had no note, counted up to 2^64 - 1: their records
+    /// weren't published when the calls ended.
+    pub fn missed(&self) -> u64
+        ensures { result ≡ self.now.missed }
+    {
+        self.missed
     }
 
     /// Returns whether what another share of the same desk saw begins with what this share saw. If
@@ -88,6 +106,7 @@ impl<C: Crew> Share<C> {
         ensures events { self.new.events ≡ self.old.events + 1 }
         ensures parts { self.new.parts ≡ self.old.parts }
         ensures seen { self.new.seen ≡ self.old.seen }
+        ensures missed { self.new.missed ≡ self.old.missed }
         ensures total { book.new.total ≡ book.old.total + 1 }
     {
         book.audit(&mut self.part);
@@ -95,8 +114,21 @@ impl<C: Crew> Share<C> {
         self.count += 1;
     }
 
-    /// Adds the events and the parts of another share of the book, and takes the longer record of
-    /// what they saw.
+    /// Counts a reply if it has no note.
+    pub(crate) fn count_note(&mut self, note: &Option<Note<C>>)
+        ensures missed { CountsNote note.now self.old.missed self.new.missed }
+        ensures events { self.new.events ≡ self.old.events }
+        ensures parts { self.new.parts ≡ self.old.parts }
+        ensures seen { self.new.seen ≡ self.old.seen }
+    {
+        match note {
+            Some(_) => {}
+            None => self.missed = self.missed.saturating_add(1),
+        }
+    }
+
+    /// Adds the events, the parts and the replies without a note of another share of the book, and
+    /// takes the longer record of what they saw.
     pub(crate) fn merge(&mut self, book: &mut Book<C>, other: Share<C>)
         requires { book.old.total < 2 ^ 63 }
         ensures total { book.new.total ≡ book.old.total }
@@ -109,9 +141,15 @@ impl<C: Crew> Share<C> {
         let mut other = other;
         other.audit(book);
         self.audit(book);
-        let Share { count, part, seen } = other;
+        let Share {
+            count,
+            part,
+            seen,
+            missed,
+        } = other;
         self.part.merge(part);
         self.count += count;
+        self.missed = self.missed.saturating_add(missed);
         self.hear(&seen);
         self.audit(book);
     }
@@ -121,6 +159,7 @@ impl<C: Crew> Share<C> {
         requires { prefix.now.history ≡ C.history }
         ensures heard { IsPrefix prefix.now.events self.new.seen }
         ensures share { Rises 0 self.old self.new }
+        ensures missed { self.new.missed ≡ self.old.missed }
     {
         self.seen = self.seen.longer(prefix);
     }
@@ -131,6 +170,7 @@ impl<C: Crew> Share<C> {
         requires { prefix.now.history ≡ C.history }
         ensures seen { self.new.seen ≡ prefix.now.events }
         ensures share { Rises 0 self.old self.new }
+        ensures missed { self.new.missed ≡ self.old.missed }
     {
         self.seen.until_begins(rt, prefix);
         self.seen = prefix.copy();

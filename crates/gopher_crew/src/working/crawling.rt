@@ -2,9 +2,10 @@
 
 ghost use Rattle.std.specs.Prelude.{◌≡◌, ◌≤◌, [], length, vec_len, vec_capacity, IfOk, IfErr};
 ghost use Rattle.std.specs.List.{AllZip};
-ghost use Rattle.gopher_crew.specs.Work.{HasPair, WorksFrom, WorksOn, HaveAsManyParts};
+ghost use Rattle.gopher_crew.specs.Rounds.{AdmitsFetched};
+ghost use Rattle.gopher_crew.specs.Work.{HasPair, WorksOn, AllWork, HaveAsManyParts};
 
-use crate::crew::Crew;
+use crate::crew::{Admits, Crew};
 use crate::desk::Desk;
 use crate::desk::share::Share;
 use crate::working::fetch::Fetch;
@@ -60,11 +61,13 @@ fn workers_of<F: Drop, C: Crew>(pairs: Vec<(F, Share<C>)>, workers: &mut Vec<Wor
 fn run_all<
     C: Crew + Send + Sync,
     R: Wait + Drop + Send,
+    A: Admits + Send + Sync,
     W: Threads + Wait + Sync,
     F: Fetch<W> + Drop + Send,
->(rt: &W, alloc: Global, desk: &Desk<C, R>, workers: &mut [WorkEnd<F, C>])
+>(rt: &W, alloc: Global, desk: &Desk<C, R, A>, workers: &mut [WorkEnd<F, C>])
+    requires { AdmitsFetched A.admits F.fetches desk.now }
     ensures len { length workers.new ≡ length workers.old }
-    ensures each { AllZip (WorksOn F.called) workers.old workers.new }
+    ensures each { AllZip (WorksOn F.fetches F.called desk.now) workers.old workers.new }
 {
     let threads = workers.len().max(1);
     for_each_mut(
@@ -72,30 +75,34 @@ fn run_all<
         workers,
         threads,
         &|_index: usize, worker: &mut WorkEnd<F, C>|
-            ensures { WorksOn F.called worker.old worker.new }
+            requires { AdmitsFetched A.admits F.fetches desk.now }
+            ensures { WorksOn F.fetches F.called desk.entry.now worker.old worker.new }
         { run(rt, alloc, desk, worker) },
     );
 }
 
 /// Works at a desk with one thread for each pair of a fetcher and a share, until each worker has
 /// stopped. Returns how the workers ended, in the order of the pairs. If a thread can't be started,
-/// the caller's thread works for its pair.
+/// the caller's thread works for its pair. The desk's rule must admit each outcome that the
+/// fetchers may have (`Admits`).
 ///
 /// # Errors
 /// `CrawlRefused` (90): out of memory, before any thread starts. It has the pairs.
 pub fn crawl<
     C: Crew + Send + Sync,
     R: Wait + Drop + Send,
+    A: Admits + Send + Sync,
     W: Threads + Wait + Sync,
     F: Fetch<W> + Drop + Send,
 >(
     rt: &W,
     alloc: Global,
-    desk: &Desk<C, R>,
+    desk: &Desk<C, R, A>,
     pairs: Vec<(F, Share<C>)>,
 ) -> Result<Vec<WorkEnd<F, C>>, CrawlRefused<F, C>>
+    requires { AdmitsFetched A.admits F.fetches desk.now }
     ensures ends { IfOk result (λ ends. vec_len ends ≡ vec_len pairs) }
-    ensures each { IfOk result (λ ends. AllZip (WorksFrom F.called) pairs.items ends.items) }
+    ensures each { IfOk result (λ it. AllWork F.fetches F.called desk.now pairs.items it.items) }
     ensures parts { IfOk result (λ ends. HaveAsManyParts pairs.items ends.items) }
     ensures back { IfErr result (λ refused. refused.pairs ≡ pairs) }
 {

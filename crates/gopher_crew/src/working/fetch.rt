@@ -1,16 +1,24 @@
 //! `Fetch`: what a worker fetches replies with.
 
 ghost use Rattle.std.specs.Prelude.{◌≡◌, ℕ, ◌≤◌, vec_len, IfOk};
-ghost use Rattle.gopher_crew.specs.Work.{one_more_call};
+ghost use Rattle.gopher_item.specs.Place.{PlaceData};
+ghost use Rattle.gopher_catalogue.specs.Closure.{OutcomeData};
+ghost use Rattle.gopher_crew.specs.Rounds.{one_more_call, outcome_of};
 
 use gopher_catalogue::Why;
 use gopher_item::Place;
 use std::alloc::Global;
 
-/// Counts a fetcher's calls. `Fetch` has the runtime as a parameter, so the count has its own
-/// trait: `fetcher.calls()` names no runtime.
+/// Counts a fetcher's calls, and says for contracts what a call did. `Fetch` has the runtime as a
+/// parameter, so these have their own trait: `fetcher.calls()` names no runtime.
+///
+/// `called` is the number that `calls` returns. `fetches` relates the fetcher before and after a
+/// call, the place and the limit of the call, and its outcome: the bytes, or the reason why there
+/// are none.
 pub trait Calls {
     ghost called: { Self → ℕ };
+
+    ghost fetches: { Self → Self → PlaceData → ℕ → OutcomeData → Type 0 };
 
     /// Returns the number of fetches, failed or not. It stays at the last value of a `u64`.
     fn calls(&self) -> u64
@@ -25,5 +33,6 @@ pub trait Fetch<R>: Calls {
     fn fetch(&mut self, rt: &R, alloc: Global, place: &Place, limit: usize) -> Result<Vec<u8>, Why>
         requires { limit ≤ 1048576 }
         ensures within { IfOk result (λ bytes. vec_len bytes ≤ limit) }
-        ensures calls { Self.called self.new ≡ one_more_call (Self.called self.old) };
+        ensures calls { Self.called self.new ≡ one_more_call (Self.called self.old) }
+        ensures fetched { Self.fetches self.old self.new place.now limit (outcome_of result) };
 }

@@ -1,6 +1,7 @@
 //! The addresses at which a server will listen, in the report of a check.
 
-use crate::arguments::{Checking, with_port};
+use crate::arguments::Checking;
+use crate::arguments::values::with_port;
 use gopher_item::{Home, NoMemory};
 use mio::net::TcpListener;
 use std::alloc::Global;

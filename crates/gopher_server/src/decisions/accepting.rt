@@ -2,7 +2,7 @@
 //! listeners an event has it accept, and what the error of a failed accept means.
 
 ghost use Rattle.std.specs.Prelude.{◌≡◌};
-ghost use Rattle.gopher_server.specs.Accepting.{after_event, duty_at, failure_of, has_ended, is_watching, listeners_at as listeners_at_token, loss_after, pause_end};
+ghost use Rattle.gopher_server.specs.Accepting.{after_event, duty_at, failure_of, has_ended, is_shortage, is_watching, listeners_at as listeners_at_token, loss_after, pause_end};
 
 use std::ops::Range;
 
@@ -84,6 +84,16 @@ pub enum AcceptFailure {
     StaysShort,
     /// The listener is broken.
     IsBroken,
+}
+
+impl AcceptFailure {
+    /// Returns whether descriptors or memory are short. The next failure for that reason then isn't
+    /// the first.
+    pub fn is_shortage(self) -> bool
+        ensures { result ≡ is_shortage self }
+    {
+        matches!(self, AcceptFailure::IsShort | AcceptFailure::StaysShort)
+    }
 }
 
 // What a connection that is lost means after `lost` others in a row.

@@ -1,10 +1,11 @@
 //! The connections that a server thread holds, and what each is doing.
 
-ghost use Rattle.std.specs.Prelude.{◌≡◌, ◌+◌, ◌-◌, ◌^◌, [], length, min, nat_lt, Some, IfOk, IfErr, OnOk, OnErr};
+ghost use Rattle.std.specs.Prelude.{◌≡◌, ◌+◌, ◌-◌, ◌^◌, [], length, min, nat_eq, nat_lt, Some, IfOk, IfErr, OnOk, OnErr};
 ghost use Rattle.std.specs.Option.{option_map, option_copied_mut};
 ghost use Rattle.std.specs.Borrow.{sem};
-ghost use Rattle.lru.specs.LruCache.{last_entry, lru_cache};
-ghost use Rattle.gopher_server.specs.Held.{IsSound, LendsHeld, Lingers, PutsHeld, added, connection, deadlines, due_at, enlarged, foremost, held_entries, is_behind, large_of, queue, queue_after, queued, step_at, with_first, without, without_key};
+ghost use Rattle.std.specs.Map.{remove_entry};
+ghost use Rattle.lru.specs.LruCache.{lru_cache, promoted};
+ghost use Rattle.gopher_server.specs.Held.{IsSound, LendsHeld, Lingers, PutsHeld, added, connection, deadlines, due_at, enlarged, foremost, held_entries, is_behind, large_of, queue, queue_after, queued, silent, silent_with, step_at, victim, with_first, without, without_deadline, without_key};
 
 use gopher_serve::Progress;
 use lru::LruCache;
@@ -25,10 +26,12 @@ const MAX_LARGE: usize = 16;
 /// Contracts see the pairs of keys and connections as `held_entries`, the most recently used first,
 /// or with the most that there may be, which is any number, as `connections`. They see the keys of
 /// those that search as `queue`, the next one first, and the keys of those that have a larger queue
-/// in the system as `large_of`.
+/// in the system as `large_of`. They see the keys of those that have asked nothing yet, each beside
+/// an empty value, as `silent`, the most recently used first.
 #[derive(Drop)]
 pub struct Held<T: Drop> {
     connections: LruCache<usize, T>,
+    silent: LruCache<usize, ()>,
     next_key: usize,
     searching: VecDeque<usize>,
     large: VecDeque<usize>,
@@ -58,6 +61,13 @@ fn remove_key(keys: &mut VecDeque<usize>, key: usize)
     keys.retain(|other| *other != key);
 }
 
+// Removes the deadlines of a key. The others keep their order.
+fn remove_deadline(deadlines: &mut VecDeque<(usize, u64)>, key: usize)
+    ensures { deadlines.new.items ≡ without_deadline key deadlines.old.items }
+{
+    deadlines.retain(|pair| pair.0 != key);
+}
+
 impl<T: Drop> Held<T> {
     /// Makes an empty collection.
     pub fn new(alloc: Global) -> Result<Held<T>, AllocError>
@@ -66,10 +76,12 @@ impl<T: Drop> Held<T> {
         ensures queue { IfOk result (λ none. queue none ≡ []) }
         ensures large { IfOk result (λ none. large_of none ≡ []) }
         ensures deadlines { IfOk result (λ none. deadlines none ≡ []) }
+        ensures silent { IfOk result (λ none. none.silent ≡ lru_cache [] (2 ^ 64 - 1)) }
         ensures sound { IfOk result IsSound }
     {
         Ok(Held {
             connections: LruCache::unbounded(alloc)?,
+            silent: LruCache::unbounded(alloc)?,
             next_key: 0,
             searching: VecDeque::new(alloc),
             large: VecDeque::new(alloc),
@@ -99,6 +111,7 @@ impl<T: Drop> Held<T> {
         ensures kept { OnErr result (self.new ≡ self.old) }
         ensures queue { queue self.new ≡ queue self.old }
         ensures large { large_of self.new ≡ large_of self.old }
+        ensures silent { silent self.new ≡ silent self.old }
     {
         let key = self.next_key;
         match self.connections.put(key, taken) {
@@ -119,11 +132,15 @@ impl<T: Drop> Held<T> {
         self.connections.peek_mut(&key)
     }
 
-    /// Returns the key of the connection that was used least recently. Takes constant time.
-    pub fn idle_longest(&self) -> Option<usize>
-        ensures { result ≡ option_map (λ pair. pair.0) (last_entry (held_entries self.now)) }
+    /// Returns the key of the connection that is closed if room is needed: the one that was used
+    /// least recently, of those that have asked nothing if there are any. Takes constant time.
+    pub fn victim(&self) -> Option<usize>
+        ensures { result ≡ victim self.now }
     {
-        self.connections.peek_lru().map(|pair| *pair.0)
+        match self.silent.peek_lru() {
+            Some(pair) => Some(*pair.0),
+            None => self.connections.peek_lru().map(|pair| *pair.0),
+        }
     }
 
     /// Makes the connection at a key the most recently used.
@@ -132,23 +149,29 @@ impl<T: Drop> Held<T> {
         ensures next { self.new.next_key ≡ self.old.next_key }
         ensures queue { queue self.new ≡ queue self.old }
         ensures large { large_of self.new ≡ large_of self.old }
+        ensures silent { silent self.new ≡ promoted (nat_eq key) (silent self.old) }
         ensures sound { IsSound self.old → IsSound self.new }
     {
         let _found = self.connections.promote(&key);
+        let _found = self.silent.promote(&key);
     }
 
-    /// Ends the connection at a key: removes it from all that it was in. Returns it, or `None` if
-    /// there is none.
+    /// Ends the connection at a key: removes it from all that it was in, its deadline too. Returns
+    /// it, or `None` if there is none.
     pub fn end(&mut self, key: usize) -> Option<T>
         ensures taken { result ≡ connection self.old key }
         ensures others { self.new.connections ≡ without self.old key }
         ensures next { self.new.next_key ≡ self.old.next_key }
         ensures queue { queue self.new ≡ without_key key (queue self.old) }
         ensures large { large_of self.new ≡ without_key key (large_of self.old) }
+        ensures deadlines { deadlines self.new ≡ without_deadline key (deadlines self.old) }
+        ensures silent { silent self.new ≡ remove_entry (nat_eq key) (silent self.old) }
         ensures sound { IsSound self.old → IsSound self.new }
     {
         remove_key(&mut self.searching, key);
         remove_key(&mut self.large, key);
+        remove_deadline(&mut self.deadlines, key);
+        let _was_silent = self.silent.pop(&key);
         self.connections.pop(&key)
     }
 
@@ -169,6 +192,34 @@ impl<T: Drop> Held<T> {
         }
     }
 
+    // ---- silence
+
+    /// Records that the connection at a key has asked nothing yet. It is then the most recently
+    /// used of those.
+    pub fn mark_silent(&mut self, key: usize) -> Result<(), AllocError>
+        ensures silent { OnOk result (self.new.silent ≡ silent_with self.old key) }
+        ensures refused { OnErr result (self.new.silent ≡ self.old.silent) }
+        ensures others { self.new.connections ≡ self.old.connections }
+        ensures queue { queue self.new ≡ queue self.old }
+        ensures large { large_of self.new ≡ large_of self.old }
+    {
+        if self.connections.contains(&key) {
+            let _before = self.silent.put(key, ())?;
+        }
+        Ok(())
+    }
+
+    /// Records that the connection at a key has asked something.
+    pub fn mark_asked(&mut self, key: usize)
+        ensures silent { silent self.new ≡ remove_entry (nat_eq key) (silent self.old) }
+        ensures others { self.new.connections ≡ self.old.connections }
+        ensures queue { queue self.new ≡ queue self.old }
+        ensures large { large_of self.new ≡ large_of self.old }
+        ensures sound { IsSound self.old → IsSound self.new }
+    {
+        let _silent = self.silent.pop(&key);
+    }
+
     // ---- searches
 
     /// Puts a connection whose reply a search makes behind the others in the queue, unless it is in
@@ -178,6 +229,7 @@ impl<T: Drop> Held<T> {
         ensures refused { OnErr result (queue self.new ≡ queue self.old) }
         ensures others { self.new.connections ≡ self.old.connections }
         ensures large { large_of self.new ≡ large_of self.old }
+        ensures silent { silent self.new ≡ silent self.old }
         ensures sound { IsSound self.old → IsSound self.new }
     {
         add_key(&self.connections, &mut self.searching, key)
@@ -204,6 +256,7 @@ impl<T: Drop> Held<T> {
         ensures first { self.new.connections ≡ with_first self.old key }
         ensures queue { queue self.new ≡ queue_after goes_on key (queue self.old) }
         ensures large { large_of self.new ≡ large_of self.old }
+        ensures silent { silent self.new ≡ promoted (nat_eq key) (silent self.old) }
         ensures sound { IsSound self.old → IsSound self.new }
     {
         self.touch(key);
@@ -221,6 +274,7 @@ impl<T: Drop> Held<T> {
         ensures others { self.new.connections ≡ self.old.connections }
         ensures queue { queue self.new ≡ queue self.old }
         ensures large { large_of self.new ≡ large_of self.old }
+        ensures silent { silent self.new ≡ silent self.old }
     {
         self.deadlines.push_back((key, now.saturating_add(LINGER)))?;
         Ok(())
@@ -239,6 +293,7 @@ impl<T: Drop> Held<T> {
         ensures others { self.new.connections ≡ self.old.connections }
         ensures queue { queue self.new ≡ queue self.old }
         ensures large { large_of self.new ≡ large_of self.old }
+        ensures silent { silent self.new ≡ silent self.old }
     {
         let taken = self.deadlines.pop_front_if(|pair| pair.1 <= now);
         taken.map(|pair| pair.0)
@@ -260,6 +315,7 @@ impl<T: Drop> Held<T> {
         ensures refused { OnErr result (large_of self.new ≡ large_of self.old) }
         ensures others { self.new.connections ≡ self.old.connections }
         ensures queue { queue self.new ≡ queue self.old }
+        ensures silent { silent self.new ≡ silent self.old }
         ensures sound { IsSound self.old → IsSound self.new }
     {
         add_key(&self.connections, &mut self.large, key)

@@ -2,7 +2,7 @@
 //! are still accepted, and the fair share of one thread.
 
 ghost use Rattle.std.specs.Prelude.{◌≡◌, ◌-◌, ◌<◌, ◌≤◌, max, nat_lt, true, false, None, Some, if◌then◌else◌};
-ghost use Rattle.gopher_server.specs.Places.{fair_share, max_places as most, may_accept, other_files};
+ghost use Rattle.gopher_server.specs.Places.{fair_share, max_of_network as most_of_network, max_places as most, may_accept, other_files};
 
 use std::sync::atomic::{AtomicU64, Ordering};
 
@@ -40,6 +40,14 @@ pub fn max_places(files: u64, listeners: u32, threads: u32, workers: u32) -> Opt
     let others = other_files(listeners, threads, workers);
     let places = files.saturating_sub(others).min(MAX_CONNECTIONS);
     (u64::from(workers) < places).then_some(places)
+}
+
+/// Returns the most connections of one network that a server with these places holds: as many as
+/// are asked for, or a quarter of the places, but at least 1.
+pub fn max_of_network(places: u64, asked: Option<u64>) -> u64
+    ensures { result ≡ most_of_network places asked }
+{
+    asked.unwrap_or(places / 4).max(1)
 }
 
 // The fair share of one of `threads` threads in `all` connections, at least 1.
@@ -101,6 +109,11 @@ impl Places {
     /// Gives back a place that was taken.
     pub fn give_back(&self) {
         let _before = self.taken.fetch_sub(1, Ordering::SeqCst);
+    }
+
+    /// Returns how many places are taken.
+    pub fn taken(&self) -> u64 {
+        self.taken.load(Ordering::SeqCst)
     }
 
     /// Returns whether more places are taken than exist.

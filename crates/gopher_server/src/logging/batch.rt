@@ -1,6 +1,6 @@
 //! Lines of the log, gathered before they are written, and what a write leaves of them (`Batch`).
 
-ghost use Rattle.std.specs.Prelude.{◌≡◌, not, IfOk, OnOk, OnErr};
+ghost use Rattle.std.specs.Prelude.{◌≡◌, length, not, IfOk, OnOk, OnErr};
 ghost use Rattle.gopher_server.specs.Batch.{WritesFirst, is_empty, is_full, no_lines, with_dropped, with_request, with_told};
 
 use crate::logging::request_line::{RequestLine, push_number, push_request};
@@ -54,6 +54,20 @@ impl Batch {
         ensures { result ≡ is_empty self.now }
     {
         self.written.is_empty() && self.dropped == 0
+    }
+
+    /// Returns the number of bytes of its lines.
+    pub fn number_of_bytes(&self) -> usize
+        ensures { result ≡ length self.now.written }
+    {
+        self.written.len()
+    }
+
+    /// Returns the number of requests that were dropped since the last of its lines.
+    pub fn number_of_dropped(&self) -> u64
+        ensures { result ≡ self.now.dropped }
+    {
+        self.dropped
     }
 
     /// Appends the line of a request, unless it is full. Returns whether it did.

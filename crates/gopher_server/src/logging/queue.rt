@@ -1,6 +1,7 @@
 //! The batches of lines that wait to be written.
 
-ghost use Rattle.std.specs.Prelude.{◌≡◌, IfErr};
+ghost use Rattle.std.specs.Prelude.{◌≡◌, IfOk, IfErr};
+ghost use Rattle.gopher_server.specs.Batch.{receipt_of};
 
 use crate::logging::batch::Batch;
 use crossbeam_channel::{Receiver, Sender, bounded};
@@ -17,6 +18,14 @@ const MAX_BATCHES: usize = 64;
 pub struct LogQueue {
     sender: Sender<Batch, Global>,
     is_closed: AtomicBool,
+}
+
+/// Says that the queue took a batch with this many bytes and dropped requests. Only the queue makes
+/// receipts.
+#[derive(Clone, Copy, Debug, PartialEq, Eq)]
+pub struct Receipt {
+    bytes: usize,
+    dropped: u64,
 }
 
 impl LogQueue {
@@ -39,11 +48,18 @@ impl LogQueue {
     /// # Errors
     ///
     /// The batch, if 64 wait or memory runs out.
-    pub(crate) fn offer(&self, rt: &impl Wait, batch: Batch) -> Result<(), Batch>
-        ensures { IfErr result (λ refused. refused ≡ batch) }
+    pub(crate) fn offer(&self, rt: &impl Wait, batch: Batch) -> Result<Receipt, Batch>
+        ensures receipt { IfOk result (λ receipt. receipt ≡ receipt_of batch) }
+        ensures refused { IfErr result (λ refused. refused ≡ batch) }
     {
-        let sent = self.sender.try_send(rt, batch);
-        sent.map_err(|refused| refused.into_inner())
+        let receipt = Receipt {
+            bytes: batch.number_of_bytes(),
+            dropped: batch.number_of_dropped(),
+        };
+        match self.sender.try_send(rt, batch) {
+            Ok(()) => Ok(receipt),
+            Err(refused) => Err(refused.into_inner()),
+        }
     }
 
     /// Records that no more batches come, and wakes the thread that writes with an empty one.

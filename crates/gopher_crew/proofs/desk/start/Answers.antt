@@ -9,8 +9,8 @@ use Rattle.gopher_crew.proofs.desk.start.Goals as goal
 
 have_all : (record_ : List EventData) (shares : ℕ) → 1 ≤ shares → shares ≤ 16 → HasAll 16 (shares_at record_ shares)
 have_all record_ shares some few =
-    let other : ShareData = record { events = 0; parts = 1; seen = record_ } in
-    let one : ShareData = record { events = length record_ - 1; parts = 17 - shares; seen = record_ } in
+    let other : ShareData = record { events = 0; parts = 1; seen = record_; missed = 0 } in
+    let one : ShareData = record { events = length record_ - 1; parts = 17 - shares; seen = record_; missed = 0 } in
     let first : parts_of (shares_at record_ shares) ≡ (17 - shares) + parts_of (replicate (shares - 1) other) = sum_by-cons (λ (s : ShareData). s.parts) one (replicate (shares - 1) other) in
     let others : parts_of (replicate (shares - 1) other) ≡ (shares - 1) * 1 = sum_by-replicate (λ (s : ShareData). s.parts) (shares - 1) other in
     record { some = omega arith; whole = omega (arith, first, others, some, few) }

@@ -14,7 +14,7 @@ none_yet (Some wanted) index none = none
 
 pub loop-part-init : goal.loop-part-init
 loop-part-init c = record {
-  best = c.in_ok-best.ensures.hits ∙ answer_of_none c.in_ok-best.best.least c.args.terms.now;
+  best = c.in_ok-best.ensures.hits ∙ answer_of_none c.in_ok-best.best.least c.args.query.now;
   first = none_yet c.args.likely 0 refl;
   plain = λ none. (none, c.in_ok-best.ensures.least);
 }
@@ -24,7 +24,7 @@ loop-part-preserved c =
     let pages : ℕ → List PageData = λ index. pages_of (take index c.args.parts.now) in
     record {
       best =
-          subst (λ all. IsBestOf c.args.terms.now all c.rank_part.new.best) (sym (pages-next c.args.parts.now c.loop-part.part-index c.part-item.result (omega arith) c.part-item.is))
+          subst (λ all. IsBestOf c.args.query.now all c.rank_part.new.best) (sym (pages-next c.args.parts.now c.loop-part.part-index c.part-item.result (omega arith) c.part-item.is))
           (c.in_ok-rank_part.ensures.best (pages c.loop-part.part-index) c.loop-part.invariant.best (IfSome_then c.loop-part.wanted c.loop-part.invariant.first (λ _ none. ap pages none)));
       first = tt;
       plain = λ none. (refl, c.in_ok-rank_part.ensures.plain (c.loop-part.invariant.plain none).0 ∙ (c.loop-part.invariant.plain none).1);
@@ -32,7 +32,7 @@ loop-part-preserved c =
 
 pub returns-clause-best : goal.returns-clause-best
 returns-clause-best c =
-    subst (λ parts. IsBestOf c.args.terms.now (pages_of parts) c.loop-part.best) (take_all c.loop-part.part-index c.args.parts.now (omega arith)) c.loop-part.invariant.best
+    subst (λ parts. IsBestOf c.args.query.now (pages_of parts) c.loop-part.best) (take_all c.loop-part.part-index c.args.parts.now (omega arith)) c.loop-part.invariant.best
 
 pub returns-clause-plain : goal.returns-clause-plain
 returns-clause-plain c = λ none. (c.loop-part.invariant.plain none).1

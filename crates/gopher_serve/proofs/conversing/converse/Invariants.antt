@@ -1,6 +1,6 @@
 use Rattle.std.proofs.Common.{◌≤◌}
 use Rattle.gopher_serve.specs.Advance.{GivesOn, HearsOn, SaysOn}
-use Rattle.gopher_serve.specs.Leads.{Leads}
+use Rattle.gopher_item.specs.Leads.{Leads}
 use Rattle.gopher_serve.proofs.PauseLemmas.{KeepsSteps, turns}
 use Rattle.gopher_serve.proofs.conversing.converse.Given as goal
 

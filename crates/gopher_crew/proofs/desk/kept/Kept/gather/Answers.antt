@@ -11,7 +11,7 @@ use Rattle.gopher_crew.proofs.Prefixes.{prefix_trans}
 use Rattle.gopher_crew.proofs.desk.kept.Kept.gather.Goals as goal
 
 pub join-requires : goal.join-requires
-join-requires g c = few_events _ _ _ c.self.invariant
+join-requires g c = few_events _ _ _ _ c.self.invariant
 
 pub returns-clause-joined : goal.returns-clause-joined
 returns-clause-joined g c = record {

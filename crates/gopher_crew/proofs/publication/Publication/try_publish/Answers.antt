@@ -3,7 +3,7 @@ use mathlib.Core.List.{IsPrefix}
 use Rattle.gopher_crew.specs.Publication.{PublicationData}
 use Rattle.gopher_crew.specs.Version.{version_data}
 use Rattle.gopher_crew.proofs.PublicationLemmas.{grows_on}
-use Rattle.gopher_crew.proofs.publication.Publication.publish.Goals as goal
+use Rattle.gopher_crew.proofs.publication.Publication.try_publish.Goals as goal
 
 pub returns-clause-grows : goal.returns-clause-grows
 returns-clause-grows g c =

@@ -5,7 +5,7 @@ use Rattle.std.proofs.lemmas.Result.{on_ok_weaker}
 use Rattle.gopher_index.proofs.GroupCells.{groups_cells, whole_groups}
 use Rattle.gopher_index.proofs.PostingLemmas.{alone_is}
 use Rattle.gopher_index.proofs.Taking.{guessed}
-use Rattle.gopher_index.proofs.search.rank_part.Goals as goal
+use Rattle.gopher_index.proofs.search.rank_segment.Goals as goal
 
 pub returns-in-Some-clause-best : goal.returns-in-Some-clause-best
 returns-in-Some-clause-best c = λ before best first.
