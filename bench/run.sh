@@ -2,9 +2,9 @@
 # Every timing: scripts replayed, menus and texts read and written, beside a plain C program that splits
 # them, settings and a site of 4,006 files checked, requests and searches of the server, beside a plain C
 # server of the same replies, the start of a server beside `find` and `cat`, a catalogue of 65,536 pages built and
-# searched, beside a plain C program that makes the same pages, adds them to postings and searches these, the memory of
-# 30,000 real texts of the machine, and a host in memory of 16,384 texts crawled
-# by 4, 2 and 1 workers, beside threads of C that index the same texts. Then other Gopher servers, if they are
+# searched, beside a plain C program that makes the same pages, adds them to postings and searches these, one of 300 pages,
+# beside that program and a plain C loop over the pages, the memory of 30,000 real texts of the machine, and a host in memory
+# of 16,384 texts crawled by 4, 2 and 1 workers, beside threads of C that index the same texts. Then other Gopher servers, if they are
 # installed, and the tables of docs/TIMINGS.md. `bench/run.sh OUTPUT` keeps what it printed, for
 # `bench/table.py --write OUTPUT`.
 set -euo pipefail
@@ -40,6 +40,14 @@ measure() {
     cc -O2 -o "$folder/postings" bench/postings.c
     echo "the plain C program:"
     "$folder/postings" "$folder/pages"
+    bench/pages.py "$folder/few" 300
+    echo "a catalogue of 300 pages:"
+    time_calls searches "$folder/few"
+    cc -O2 -o "$folder/loop" bench/loop.c
+    echo "a plain C loop over them:"
+    "$folder/loop" "$folder/few"
+    echo "the plain C program over them:"
+    "$folder/postings" "$folder/few"
     bench/texts.py "$folder/texts"
     time_calls searches "$folder/texts" | sed -n '1s/^/real texts: /p'
     bench/pages.py "$folder/crawled" 16384

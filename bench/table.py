@@ -60,14 +60,26 @@ def idled(text):
         yield f"small menus, {count:,} idle clients", rate, None
 
 
+def quotient(ours, plain):
+    """The geometric mean over the queries of the C program's time by Hole's."""
+    queries = re.findall(r"(?m)^(.*): ([\d.]+) us, \d+ hits, \d+ the sum of their scores$", ours)
+    times = [(number(plain, rf"(?m)^{re.escape(name)}: ([\d.]+) us, "), float(us)) for name, us in queries]
+    # a time below 50 nanoseconds is printed as 0, and has no quotient
+    ratios = [plain_us / us for plain_us, us in times if plain_us and us]
+    return math.exp(sum(map(math.log, ratios)) / len(ratios))
+
+
+def searched_few(text):
+    """The rows of searches of few pages, beside a loop over them and beside postings of them."""
+    ours, loop, postings = re.split(r"a catalogue of 300 pages:|a plain C loop over them:|the plain C program over them:", text)[1:]
+    yield "searches of 300 pages, to a loop over them", quotient(ours, loop), None
+    yield "searches of 300 pages, to packed postings", quotient(ours, postings), None
+
+
 def searched(text):
     """The rows of searches and of making and adding pages. The C program's packing counts as adding."""
     ours, plain = text[: text.index("the plain C program:")], text[text.index("the plain C program:") :]
-    queries = re.findall(r"(?m)^(.*): (\d+) us, \d+ hits, \d+ the sum of their scores$", ours)
-    times = [(number(plain, rf"(?m)^{re.escape(name)}: (\d+) us, "), float(us)) for name, us in queries]
-    # a time below half a microsecond is printed as 0, and has no quotient
-    ratios = [plain_us / us for plain_us, us in times if plain_us and us]
-    yield "searches of 65,536 pages", math.exp(sum(map(math.log, ratios)) / len(ratios)), None
+    yield "searches of 65,536 pages", quotient(ours, plain), None
     made, added = (number(ours, rf"(?m)^65536 pages: {words}") for words in (r"(\d+) ns", r"\d+ ns a page to make, (\d+) "))
     making, adding, packing = (number(plain, rf"(?m)^{name}: ([\d.]+) us a page") for name in ("making", "adding", "packing"))
     yield "making pages", 1000 * making / made, None
@@ -91,7 +103,7 @@ def read(text):
 
 def table(text):
     """The table of ratios to plain C."""
-    rows = [*served(text), *idled(text), *searched(text), *crawled(text), *read(text)]
+    rows = [*served(text), *idled(text), *searched(text), *searched_few(text), *crawled(text), *read(text)]
     head = ["| measured | rate, Hole / C; memory, C / Hole | processor time, C / Hole |", "|---|---|---|"]
     shown = [f"| {name} | {rate:.2f} | {'' if spent is None else f'{spent:.2f} '}|" for name, rate, spent in rows]
     return "\n".join(head + shown) + "\n"

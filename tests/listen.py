@@ -12,13 +12,15 @@ import socket
 import sys
 import time
 
-from running.server import HOST, ask, ask_whole, connect, free_port, is_open, run_test, with_few_files
+from running.server import HOST, ask, ask_whole, connect, free_port, is_open, read_all, run_test, with_few_files
 
 FILES = {"a.txt": b"hello\n"}
 OTHER, ABSENT, REPLY = "127.0.0.2", "192.0.2.1", b"hello\r\n.\r\n"
 # How many files a server keeps for what isn't a connection, and how many connections it may hold then.
 FILES_LEFT, PLACES = 64, 40
 NOT_LISTENING = b"hole: 81\n"
+# Twice the larger queue of a client, as the system counts it.
+MOST_QUEUED = 2 * 262_144
 IPV6, LOOPBACK = pathlib.Path("/proc/net/if_inet6"), f"{1:032}"
 NO_SEEDS = "warning: searches find nothing, because the settings have no [[seeds]]\n"
 
@@ -102,6 +104,44 @@ def check_activation(test):
         _, error, status = test.ended(root, "--progress", **handing_over(other))
         told = (b"hole: connections can't be accepted: " in error, error.splitlines()[-1], status)
         test.expect("the same with --progress", told, (True, b"hole: 81", 1))
+        listening(test, root, "--listen", ABSENT, hosts=places[:1], **handing_over(first))
+
+
+def check_other_descriptors(test):
+    """What is handed over and isn't a TCP socket is named, and nothing is served."""
+    root = test.site(FILES)
+    kinds = (socket.AF_INET, socket.SOCK_DGRAM), (socket.AF_UNIX, socket.SOCK_STREAM), (socket.AF_UNIX, socket.SOCK_SEQPACKET)
+    for kind in kinds:
+        with socket.socket(*kind) as other:
+            fails_to_listen(test, root, "hole: can't listen at descriptor 3: not a TCP socket", **handing_over(other))
+    with socket.create_server((HOST, 0)) as first, open(test.folder / "file", "wb") as other:
+        fails_to_listen(test, root, "hole: can't listen at descriptor 4: not a TCP socket", **handing_over(first, other))
+
+
+def queued_for(client):
+    """How many bytes the system queues for a client that is connected from this machine."""
+    ends = [client.getpeername()[1], client.getsockname()[1]]
+    rows = [row.split() for row in pathlib.Path("/proc/net/tcp").read_text().splitlines()[1:]]
+    return max(int(row[4].split(":")[0], 16) for row in rows if [int(end.split(":")[1], 16) for end in row[1:3]] == ends)
+
+
+def check_blocking(test):
+    """The one thread never waits in accept at a socket that is handed over as systemd does, and what is queued for its clients is
+    limited."""
+    root = test.site({**FILES, "large": bytes(8 << 20)})
+    with socket.create_server((HOST, 0)) as first:
+        port = first.getsockname()[1]
+        with test.serving(root, **handing_over(first)):
+            slow = connect(port)
+            slow.sendall(b"/a")
+            for _ in range(8):
+                test.expect("a request beside a slow one", ask(port, b"/a.txt\r\n"), REPLY)
+            slow.sendall(b".txt\r\n")
+            test.expect("the slow one", read_all(slow), REPLY)
+            with connect(port) as deaf:
+                deaf.sendall(b"/large\r\n")
+                time.sleep(1)
+                test.expect("what is queued for a client that doesn't read", 0 < queued_for(deaf) <= MOST_QUEUED, True)
 
 
 def check_lost_thread(test):
@@ -176,4 +216,5 @@ def check_checks(test):
 
 
 if __name__ == "__main__":
-    run_test("listen", __doc__, check_named, check_addresses, check_activation, check_lost_thread, check_checks)
+    run_test("listen", __doc__, check_named, check_addresses, check_activation, check_other_descriptors, check_blocking,
+             check_lost_thread, check_checks)

@@ -22,20 +22,13 @@ README, PROMISES = (ROOT / "README.md").read_text(), (ROOT / "docs/PROMISES.md")
 PAGES = {path.name: path.read_text() for path in [*sorted(ROOT.glob("*.md")), *sorted(ROOT.glob("docs/*.md"))]}
 RECIPES = "\n".join(path.read_text() for path in [ROOT / "Makefile", *ROOT.glob("*/*.mk")])
 # words of an older dialect; plain ones are: out of memory, if, as many, fails with 90
-AVOIDED = re.compile(r"(?i)\b(?:want of memory|whoever|so many more|answers 90|refused only where|memory is refused)\b")
+AVOIDED = re.compile(r"(?i)\b(?:want of memory|whoever|so many|answers 90|refused only where|memory is refused)\b")
 COMMENT = re.compile(r"(?m)^ *(?://[/!]?|--) (.*)$")
 SPECS = {path: path.read_text() for path in ROOT.glob("crates/*/specs/**/*.antt")}
 DEFINITION = re.compile(r"(?m)^(?:(?:pub|abbrev|unfoldable|opaque) )*(?:(?:record|data) (\w\S*)|(\w\S*) (?::|[({][^=\n]*[)}] :))")
 LEMMAS = re.compile(r"(?m)^use Rattle\.(?!std\b)\w+\.proofs\..*$")
 # comments and clauses of sources; of definitions also what isn't a list of names or a text
 SHORT = {"src/**/*.rt": r"(?m)^ *(?://|requires\b|ensures\b).*$", "specs/**/*.antt": r'(?m)^(?: *--.*|(?!(?:pub )?use )[^"\n]*)$'}
-# one column too wide: definitions are part of a library, so a mended one has all crates above it proved anew
-WIDE = {
-    "-- the rule admits each event that records an outcome of a fetch, at a desk that was opened over this",
-    "-- the program was asked for this, or had no memory to read what it was asked for, and wrote the line",
-    "-- a text names this number of bytes: a decimal number of them or, with `K`, `M` or `G` behind it, of",
-    "    MatchOption (asked_of talk) (new ≡ old) (λ asked. LogsLine accepted asked (sent_of talk) old new)",
-}
 OFF_BY = 0.02  # a count over 1,000 moves with every commit and may differ by so much
 
 
@@ -144,7 +137,7 @@ class Definitions(unittest.TestCase):
     def test_comments_clauses_and_definitions_are_short(self):
         for kind, pattern in SHORT.items():
             for text in numbers_of_code.texts(kind):
-                self.assertEqual([line for line in re.findall(pattern, text) if len(line) > 100 and line not in WIDE], [])
+                self.assertEqual([line for line in re.findall(pattern, text) if len(line) > 100], [])
 
 
 if __name__ == "__main__":

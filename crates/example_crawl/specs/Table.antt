@@ -51,6 +51,10 @@ abbrev pub MatchesTable : ScopeData → List (List ℕ × List ℕ) → PlaceDat
 MatchesTable scope replies place event =
     IsTrue (is_lack event) ⊎ IsTold scope place (table_of replies place) (Some event)
 
+-- each outcome in the record is that of its place's reply, unless memory ran out
+abbrev pub AllMatch : ScopeData → List (List ℕ × List ℕ) → List EventData → Type 0
+AllMatch scope replies record_ = AllAdmitted (MatchesTable scope replies) record_
+
 -- the crawl of this record has this scope
 abbrev pub HasScope : List EventData → ScopeData → Type 0
 HasScope record_ scope =
@@ -60,5 +64,5 @@ HasScope record_ scope =
 abbrev pub AreFinal : List EventData → List TermData → List Hit → Type 0
 AreFinal record_ query hits =
     (opening : OpeningData) (replies : List (List ℕ × List ℕ)) → IsOpeningOf record_ opening
-    → AllAdmitted (MatchesTable opening.scope replies) record_
+    → AllMatch opening.scope replies record_
     → FinalAnswer opening.scope opening.seeds (table_of replies) query hits

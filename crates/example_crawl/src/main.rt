@@ -23,7 +23,7 @@ ghost use Rattle.gopher_catalogue.specs.Closure.{FinalAnswer};
 ghost use Rattle.gopher_crew.specs.Admitted.{AllAdmitted};
 ghost use Rattle.gopher_crew.specs.Pass.{hits_of};
 ghost use Rattle.gopher_crew.specs.Desk.{IsBlankOf};
-ghost use Rattle.example_crawl.specs.Table.{is_lack, table_of, AreFinal, HasScope, MatchesTable};
+ghost use Rattle.example_crawl.specs.Table.{is_lack, table_of, AllMatch, AreFinal, HasScope};
 
 mod burrow;
 mod failed;
@@ -152,7 +152,7 @@ fn closed<C: Crew + Send + Sync, T: Table + Send + Sync, R: AllocGlobal + Thread
     requires replies { host.now ≡ T.replies }
     requires scope { HasScope desk T.scope }
     ensures goes_on { IfOk result (λ it. IsPrefix desk.entry it.catalogue) }
-    ensures admitted { IfOk result (λ it. AllAdmitted (MatchesTable T.scope T.replies) it.catalogue) }
+    ensures matches { IfOk result (λ it. AllMatch T.scope T.replies it.catalogue) }
 {
     let Some((first, second)) = two_of(passes) else {
         return Err(Failed::Refused);

@@ -1,22 +1,21 @@
--- The exchange that adds an event keeps the rule of a history.
+-- The exchange that adds an entry keeps the rule of a history.
 use Rattle.std.proofs.Common.{◌≡◌, ℕ, ◌+◌, ◌<◌, ◌==◌, Bool, true, false, List, [], ◌∷◌, ◌++◌, length, refl, ap, sym, subst, arith, inl, length-append, None}
 use Rattle.std.proofs.lemmas.List.{append-nil}
 use Rattle.std.proofs.lemmas.Bool.Decides.{nat_tests}
 use mathlib.Core.List.{IsPrefix}
 use prog.Atomic.{either}
 use Rattle.logbook.specs.Pages.{Cell, cell, keeps, no_nib, step, Moves, Goes}
-use Rattle.gopher_catalogue.specs.declared.event.EventData.{EventData}
-use Rattle.gopher_crew.specs.History.{IsCounted, ExchangeAdds}
+use Rattle.gopher_crew.specs.History.{MadeEvent, IsCounted, ExchangeAdds}
 use Rattle.gopher_crew.proofs.Prefixes.{prefix_whole}
 
-abbrev pub shown : List EventData → List EventData
+abbrev pub shown : List MadeEvent → List MadeEvent
 shown log = []
 
-abbrev pub moved : List EventData → List EventData → ℕ → Type 0
+abbrev pub moved : List MadeEvent → List MadeEvent → ℕ → Type 0
 moved xs ys n = Unit {0}
 
 -- by whether the word is found as expected
-pub adds_goes : (log v : List EventData) (e : EventData) (old : ℕ) → length v ≡ old → IsPrefix v log
+pub adds_goes : (log v : List MadeEvent) (e : MadeEvent) (old : ℕ) → length v ≡ old → IsPrefix v log
     → (b : Bool) → (length log == old) ≡ b
     → Goes IsCounted shown moved 0 (v, (no_nib, None)) (λ n. either (n == old) (old + 1) n) (ExchangeAdds (step 0 old (old + 1) e) (v, (no_nib, None))) ((length log, true) ∷ (0, true) ∷ []) log
 adds_goes log v e old len pre true is =
@@ -43,8 +42,8 @@ adds_goes log v e old len pre false is =
       rw is tt,
     )
 
--- whatever the history is, the exchange adds the event to all that was seen, or adds nothing
-pub adds_moves : (v : List EventData) (e : EventData) (old : ℕ) → length v ≡ old
+-- whatever the history is, the exchange adds the entry to all that was seen, or adds nothing
+pub adds_moves : (v : List MadeEvent) (e : MadeEvent) (old : ℕ) → length v ≡ old
     → Moves IsCounted shown moved 0 (v, (no_nib, None)) (λ n. either (n == old) (old + 1) n) (ExchangeAdds (step 0 old (old + 1) e) (v, (no_nib, None)))
 adds_moves v e old len cs log kept pre away =
     let P : List Cell → Type 0 = λ c. (0 < length c) × ((cell c 0).1 ≡ true) × Goes IsCounted shown moved 0 (v, (no_nib, None)) (λ n. either (n == old) (old + 1) n) (ExchangeAdds (step 0 old (old + 1) e) (v, (no_nib, None))) c log in

@@ -1,5 +1,5 @@
 -- Records whose outcomes are admitted.
-use Rattle.std.proofs.Common.{◌≡◌, ℕ, zero, suc, ◌<◌, ◌≤◌, ◌⊎◌, inl, inr, true, false, Bool, ◌||◌, ◌==◌, List, [], ◌∷◌, ◌++◌, length, take, slice_get, Option, None, Some, Result, Ok, Err, IsTrue, cond, refl, sym, ap, subst, ◌∙◌, arith}
+use Rattle.std.proofs.Common.{◌≡◌, ℕ, zero, suc, ◌<◌, ◌≤◌, inl, inr, true, false, Bool, ◌||◌, ◌==◌, List, [], ◌∷◌, ◌++◌, length, take, slice_get, Option, None, Some, Result, Ok, Err, IsTrue, cond, refl, sym, ap, subst, ◌∙◌, arith}
 use Rattle.std.proofs.lemmas.List.{take-append-le, take_at}
 use Rattle.std.proofs.lemmas.Option.{slice_get_within}
 use Rattle.std.proofs.lemmas.Bool.{eqb-true, false≢true}
@@ -24,7 +24,7 @@ use Rattle.gopher_catalogue.proofs.Lists.{slice_get_push_cases, slice_get-append
 use Rattle.gopher_catalogue.proofs.Reach.{known_stays}
 use Rattle.gopher_crew.specs.Admitted.{EventRule, IsPlaceIn, IsAdmitted, AllAdmitted, MayAdd}
 use Rattle.gopher_crew.specs.Kept.{Later, Claims, IsOpeningOf}
-use Rattle.gopher_crew.specs.Rounds.{outcome_of, AdmitsFetched, IsEventOf, MayHandIn}
+use Rattle.gopher_crew.specs.Rounds.{outcome_of, AdmitsFetched, MayHandIn}
 use Rattle.gopher_crew.specs.Share.{ShareData}
 use Rattle.gopher_crew.specs.Work.{Settles}
 use Rattle.gopher_crew.proofs.Prefixes.{prefix_trans, prefix_push}

@@ -2,10 +2,9 @@
 use Rattle.std.proofs.Common.{◌≡◌, ℕ, suc, ◌<◌, List, ◌∷◌, length, take, slice_get, Option, None, Some, IsTrue, refl, sym, ap, subst, ◌∙◌}
 use Rattle.std.proofs.lemmas.Bool.{false≢true}
 use Rattle.gopher_item.specs.Place.{PlaceData}
-use Rattle.gopher_page.specs.Page.{PageData}
 use Rattle.gopher_catalogue.specs.declared.event.EventData.{EventData}
 use Rattle.gopher_catalogue.specs.declared.event.EventData.TheVariants.{Opened, Claimed, Found, Failed}
-use Rattle.gopher_catalogue.specs.Closure.{OutcomeTable, IsTold, is_outcome_of, last_outcome}
+use Rattle.gopher_catalogue.specs.Closure.{IsTold, is_outcome_of, last_outcome}
 use Rattle.gopher_catalogue.specs.Frontier.{known}
 use Rattle.gopher_catalogue.specs.Legal.{MayFollow}
 use Rattle.gopher_catalogue.specs.Opening.{OpeningData}

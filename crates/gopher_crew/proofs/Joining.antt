@@ -1,16 +1,24 @@
 -- Shares that are merged into one.
-use Rattle.std.proofs.Common.{List, [], ◌∷◌, ◌++◌, Some, refl}
+use Rattle.std.proofs.Common.{List, ℕ, [], ◌∷◌, ◌++◌, Some, refl}
 use Rattle.std.proofs.lemmas.List.Elements.{All-pop, All-push}
-use mathlib.Core.List.{IsPrefix}
 use Rattle.gopher_catalogue.specs.declared.event.EventData.{EventData}
-use Rattle.gopher_crew.specs.Share.{ShareData}
+use Rattle.gopher_crew.specs.Share.{ShareData, HasSeen, Rises}
 use Rattle.gopher_crew.specs.Desk.{HasAllSeen, JoinsAll}
+use Rattle.gopher_crew.proofs.Prefixes.{prefix_trans}
 
--- a record that begins with what several shares saw begins with what the last of them saw
-pub last_has_seen : (record_ : List EventData) (shares : List ShareData) (share : ShareData) → HasAllSeen record_ (shares ++ share ∷ []) → IsPrefix share.seen record_
-last_has_seen record_ shares share seen = (All-pop (λ (s : ShareData). IsPrefix s.seen record_) (shares ++ share ∷ []) shares (Some share) refl seen).1
+-- a share that saw no more than another saw no more than what that one saw no more than
+pub seen_less : (record_ : List EventData) (makers : List ℕ) (less more : ShareData) → HasSeen more.seen more.makers less → HasSeen record_ makers more → HasSeen record_ makers less
+seen_less record_ makers less more first next = record { events = prefix_trans _ _ _ first.events next.events; made = prefix_trans _ _ _ first.made next.made }
 
--- a record that begins with what a share saw that others were merged into begins with what each saw
-pub joined_have_seen : (record_ : List EventData) (others : List ShareData) (share all : ShareData) → JoinsAll share others all → IsPrefix all.seen record_ → HasAllSeen record_ (others ++ share ∷ [])
-joined_have_seen record_ others share all joins begins =
-    let both = joins.seen record_ begins in All-push (λ (s : ShareData). IsPrefix s.seen record_) others share both.1 both.0
+-- what a share saw before it rose
+pub rises_sees : (count : ℕ) (old new : ShareData) → Rises count old new → HasSeen new.seen new.makers old
+rises_sees count old new rises = record { events = rises.seen; made = rises.makers }
+
+-- of shares that saw no more than a record, the last one saw no more
+pub last_has_seen : (record_ : List EventData) (makers : List ℕ) (shares : List ShareData) (share : ShareData) → HasAllSeen record_ makers (shares ++ share ∷ []) → HasSeen record_ makers share
+last_has_seen record_ makers shares share seen = (All-pop (HasSeen record_ makers) (shares ++ share ∷ []) shares (Some share) refl seen).1
+
+-- shares that were merged into one saw no more than a record of which that one saw no more
+pub joined_have_seen : (record_ : List EventData) (makers : List ℕ) (others : List ShareData) (share all : ShareData) → JoinsAll share others all → HasSeen record_ makers all → HasAllSeen record_ makers (others ++ share ∷ [])
+joined_have_seen record_ makers others share all joins begins =
+    let both = joins.seen record_ makers begins in All-push (HasSeen record_ makers) others share both.1 both.0

@@ -10,3 +10,4 @@ pub mod PublicationLemmas
 pub mod Admitting
 pub mod Agreeing
 pub mod Rounding
+pub mod Making

@@ -1,6 +1,6 @@
 -- Prefixes of one list.
 use Rattle.std.proofs.Common.{◌≡◌, ℕ, zero, suc, ◌+◌, ◌<◌, ◌≤◌, map, take, get_or, List, [], ◌∷◌, ◌++◌, length, refl, ap, sym, ◌∙◌, arith, append_assoc}
-use Rattle.std.proofs.lemmas.List.{take-map, map_more}
+use Rattle.std.proofs.lemmas.List.{map-append, take-map, map_more}
 use mathlib.Core.List.{IsPrefix}
 
 -- each list is a prefix of itself
@@ -13,6 +13,10 @@ prefix_none xs = (xs, refl)
 
 pub prefix_trans : {A : Type 0} (xs ys zs : List A) → IsPrefix xs ys → IsPrefix ys zs → IsPrefix xs zs
 prefix_trans xs ys zs p q = (p.0 ++ q.0, sym (append_assoc xs p.0 q.0) ∙ (ap (λ w. w ++ q.0) p.1 ∙ q.1))
+
+-- the images of a prefix are a prefix of the images
+pub prefix_map : {X Y : Type 0} (f : X → Y) (xs ys : List X) → IsPrefix xs ys → IsPrefix (map f xs) (map f ys)
+prefix_map f xs ys p = (map f p.0, sym (map-append f xs p.0) ∙ ap (map f) p.1)
 
 -- a list without its last element is a prefix of it
 pub prefix_push : {A : Type 0} (xs : List A) (y : A) → IsPrefix xs (xs ++ y ∷ [])

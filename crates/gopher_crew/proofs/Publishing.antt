@@ -1,5 +1,5 @@
 -- Entries, publications and new readers keep the rule of what is published.
-use Rattle.std.proofs.Common.{◌≡◌, ◌≢◌, ℕ, List, [], refl, sym, subst, ⊎_elim}
+use Rattle.std.proofs.Common.{◌≡◌, ◌≢◌, ℕ, List, [], ◌∷◌, refl, sym, subst, ⊎_elim}
 use mathlib.Core.Option.{some}
 use mathlib.Core.List.{IsPrefix}
 use lib.ListN.{get_elem?}
@@ -7,7 +7,7 @@ use Rattle.left_right.specs.Register.{Admits, Turns, TurnsAt}
 use Rattle.atomic_table.proofs.Lists.{at_set, at_snoc}
 use Rattle.logbook.specs.Pages.{Book}
 use Rattle.gopher_catalogue.specs.declared.event.EventData.{EventData}
-use Rattle.gopher_crew.specs.Version.{VersionData, IsPublished, Sees, FollowsVersion}
+use Rattle.gopher_crew.specs.Version.{VersionData, IsVersion, IsPublished, Sees, FollowsVersion}
 use Rattle.gopher_crew.proofs.Prefixes.{prefix_self, prefix_none, prefix_trans}
 
 -- a reader that has seen nothing may come at any time
@@ -16,6 +16,10 @@ admits history x views h = record {
   is_version = h.is_version;
   begins = λ seat v at. ⊎_elim (h.begins seat v) (λ (e : [] ≡ v). subst (λ (z : List EventData). IsPrefix z x.prefix.events) e (prefix_none x.prefix.events)) (at_snoc views [] v seat at);
 }
+
+-- a first reader has seen nothing
+pub first_shows : (history : Book) (x : VersionData) → IsVersion history x → IsPublished history x ([] ∷ [])
+first_shows history x is = admits history x [] (record { is_version = is; begins = λ seat v at. absurd (cc (at)) })
 
 -- a version that goes on may take the place of the published one, and the one who shows it, or looks, sees it
 pub shows : (history : Book) (seat : ℕ) (v : List EventData) (x y : VersionData) → FollowsVersion history x y → TurnsAt (IsPublished history) seat v x y (Sees history)

@@ -23,14 +23,14 @@ pub one_longer : (old new : RecordPrefixData) (event : EventData) → new.events
 one_longer old new event adds = omega (arith, ap length adds, length-append old.events (event ∷ []))
 
 -- a prefix of a record, to which the next event was added or not
-pub one_more_entered : (added : Bool) (old new : RecordPrefixData) (events : List Event) (record_ : List EventData) (i : ℕ) (event : Event)
+pub one_more_entered : (added : Bool) (old new : RecordPrefixData) (events : List Event) (record_ : List EventData) (i : ℕ) (event : Event) (maker : ℕ)
     → map event_data events ≡ record_ → IsPrefix old.events record_ → i ≡ length old.events → i < length events → event ≡ get_or events i event
-    → AddsEventTo added (event_data event) old new → IsPrefix new.events record_
-one_more_entered true old new events record_ i event is begun next less at adds =
+    → AddsEventTo added (event_data event, maker) old new → IsPrefix new.events record_
+one_more_entered true old new events record_ i event maker is begun next less at adds =
     let before : take i record_ ≡ old.events = ap (take i) (sym begun.1) ∙ take_at old.events begun.0 i (sym next) in
     let more : take (i + 1) record_ ≡ new.events =
     ap (take (i + 1)) (sym is) ∙ take_map_more event_data events i event less
     ∙ ap (λ l. l ++ event_data (get_or events i event) ∷ []) (ap (take i) is ∙ before)
-    ∙ ap (λ e. old.events ++ event_data e ∷ []) (sym at) ∙ sym adds in
+    ∙ ap (λ e. old.events ++ event_data e ∷ []) (sym at) ∙ sym adds.0 in
     subst (λ (l : List EventData). IsPrefix l record_) more (prefix_take record_ (i + 1))
-one_more_entered false old new events record_ i event is begun next less at adds = subst (λ (p : RecordPrefixData). IsPrefix p.events record_) (sym adds) begun
+one_more_entered false old new events record_ i event maker is begun next less at adds = subst (λ (p : RecordPrefixData). IsPrefix p.events record_) (sym adds) begun

@@ -34,9 +34,11 @@ use Rattle.gopher_crew.proofs.Prefixes.{prefix_self, prefix_trans}
 pub rises_on : (m n : ℕ) (a b c : ShareData) → Rises m a b → Rises n b c → Rises (m + n) a c
 rises_on m n a b c first next =
     record {
+      number = next.number ∙ first.number;
       events = omega (arith, first.events, next.events);
       parts = next.parts ∙ first.parts;
       seen = prefix_trans _ _ _ first.seen next.seen;
+      makers = prefix_trans _ _ _ first.makers next.makers;
     }
 
 pub adds_found : (number : ℕ) (page : PageData) (added : Added) (old new : ShareData)

@@ -1,5 +1,5 @@
 -- Opening and closing a desk.
-use Rattle.std.specs.Prelude.{ℕ, ◌≡◌, ◌≢◌, ◌<◌, ◌+◌, ◌-◌, Bool, ◌&&◌, nat_le, MatchBool, List, ◌∷◌, length, replicate}
+use Rattle.std.specs.Prelude.{ℕ, zero, suc, ◌≡◌, ◌≢◌, ◌<◌, ◌+◌, ◌-◌, Bool, ◌&&◌, nat_le, MatchBool, List, [], ◌∷◌, ◌++◌, length, replicate}
 use Rattle.std.specs.List.{All, sum_by}
 use mathlib.Core.List.{IsPrefix}
 use Rattle.logbook.specs.Pages.{Book}
@@ -8,7 +8,7 @@ use Rattle.gopher_catalogue.specs.Legal.{IsLegal}
 use Rattle.gopher_crew.specs.declared.fault.DeskFault.{DeskFault}
 use Rattle.gopher_crew.specs.declared.fault.DeskFault.TheVariants.{BadCount}
 use Rattle.gopher_crew.specs.Pass.{PassData}
-use Rattle.gopher_crew.specs.Share.{ShareData}
+use Rattle.gopher_crew.specs.Share.{HasSeen, ShareData}
 use Rattle.gopher_crew.specs.History.{RecordPrefixData}
 
 -- what a desk is opened with: the name of a ledger and the number of its parts, a history, and the
@@ -47,12 +47,27 @@ has_seen record_ = record { seen = record_; told = record_; failed_entries = 0 }
 abbrev pub AllHaveSeen : List EventData → ℕ → List PassData → Type 0
 AllHaveSeen record_ count passes = passes ≡ replicate count (has_seen record_)
 
--- the shares of a desk that opens over a record. All have seen it. The first counts its events so
--- far, the others none
+-- a share of a desk that opens over a record. It has seen the record, all of which the share 0 made
+abbrev pub share_at : List EventData → ℕ → ℕ → ℕ → ShareData
+share_at record_ number events parts = record {
+  number = number;
+  events = events;
+  parts = parts;
+  seen = record_;
+  makers = replicate (length record_) 0;
+  missed = 0;
+}
+
+-- the shares 1 to `count`, each with one part, which count no events
+abbrev pub others_at : List EventData → ℕ → List ShareData
+others_at record_ zero = []
+others_at record_ (suc count) = others_at record_ count ++ share_at record_ (suc count) 0 1 ∷ []
+
+-- the shares of a desk that opens over a record. The first counts its events so far, the others
+-- none
 abbrev pub shares_at : List EventData → ℕ → List ShareData
 shares_at record_ shares =
-    record { events = length record_ - 1; parts = 17 - shares; seen = record_; missed = 0 }
-    ∷ replicate (shares - 1) (record { events = 0; parts = 1; seen = record_; missed = 0 })
+    share_at record_ 0 (length record_ - 1) (17 - shares) ∷ others_at record_ (shares - 1)
 
 -- the number of events that these shares count, and the number of their parts
 abbrev pub events_of : List ShareData → ℕ
@@ -74,30 +89,33 @@ pub record HasAll (parts : ℕ) (shares : List ShareData) : Type 0 where
   pub some : 0 < length shares
   pub whole : parts_of shares ≡ parts
 
--- the record begins with what each of these shares saw
-abbrev pub HasAllSeen : List EventData → List ShareData → Type 0
-HasAllSeen record_ shares = All (λ share. IsPrefix share.seen record_) shares
+-- each of these shares saw no more than this record and these makers
+abbrev pub HasAllSeen : List EventData → List ℕ → List ShareData → Type 0
+HasAllSeen record_ makers shares = All (HasSeen record_ makers) shares
 
 -- other shares that count the same number of events, have the same number of parts, and saw as much
 pub record CountTheSame (old new : List ShareData) : Type 0 where
   pub events : events_of new ≡ events_of old
   pub parts : parts_of new ≡ parts_of old
-  pub seen : (record_ : List EventData) → HasAllSeen record_ new → HasAllSeen record_ old
+  pub seen : (record_ : List EventData) (makers : List ℕ) → HasAllSeen record_ makers new
+      → HasAllSeen record_ makers old
 
 -- a share after others were merged into it: it counts their events, has their parts, and saw what
 -- each of them saw
 pub record JoinsAll (share : ShareData) (others : List ShareData) (all : ShareData) : Type 0 where
   pub events : all.events ≡ share.events + events_of others
   pub parts : all.parts ≡ share.parts + parts_of others
-  pub seen : (record_ : List EventData) → IsPrefix all.seen record_
-      → IsPrefix share.seen record_ × HasAllSeen record_ others
+  pub seen : (record_ : List EventData) (makers : List ℕ) → HasSeen record_ makers all
+      → HasSeen record_ makers share × HasAllSeen record_ makers others
 
 -- The record of a desk that is closed with these shares. It is legal, and begins with the record
--- that the desk was opened with and with what each share saw. The shares count its events after the
--- first
+-- that the desk was opened with. Each of its events has one maker, and each share saw a prefix of
+-- both. The shares count its events after the first
 pub record Closes (opened : List EventData) (shares : List ShareData) (record_ : List EventData)
     : Type 0 where
   pub legal : IsLegal record_
   pub goes_on : IsPrefix opened record_
-  pub seen : HasAllSeen record_ shares
+  pub makers : List ℕ
+  pub made : length makers ≡ length record_
+  pub seen : HasAllSeen record_ makers shares
   pub counted : length record_ ≡ events_of shares + 1

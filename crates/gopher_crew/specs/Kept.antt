@@ -16,7 +16,7 @@ use Rattle.gopher_catalogue.specs.declared.frontier.sizes.Status.{Status}
 use Rattle.gopher_catalogue.specs.Step.{TurnData, Take, Idle, turn_of, after_turn, added_by, found_fault, is_out_in, status_of}
 use Rattle.gopher_catalogue.specs.Turn.{IsTake}
 use Rattle.gopher_crew.specs.Publication.{PublicationData}
-use Rattle.gopher_crew.specs.Share.{ShareData}
+use Rattle.gopher_crew.specs.Share.{ShareData, MadeNext}
 
 -- there is a note exactly if the published record is the whole record, and the note is of that
 -- record
@@ -30,11 +30,12 @@ rise_of (Take number place) = 1
 rise_of turn = 0
 
 -- what each call keeps: the record begins with what the share had seen, and the share then has seen
--- the legal record after the call, of which no less is published
+-- the legal record after the call and its makers. No less is published
 pub record IsCall (old : PublicationData) (share : ShareData) (new : PublicationData)
     (share' : ShareData) : Type 0 where
   pub begins : IsPrefix share.seen old.events
   pub seen : share'.seen ≡ new.events
+  pub makers : share'.makers ≡ new.makers
   pub grows : IsPrefix old.published new.published
   pub legal : IsLegal new.events
 
@@ -49,28 +50,31 @@ pub record Later (seen : List EventData) (HoldsOn : List EventData → Type 0) :
   pub holds : HoldsOn before
 
 -- on the record before, a claim returns this turn. The share then has seen the legal record after
--- the turn
+-- the turn. It made the event of a claimed place
 pub record Claims (turn : TurnData) (share : ShareData) (before : List EventData) : Type 0 where
   pub is_turn : turn_of before ≡ turn
   pub is_after : share.seen ≡ after_turn before turn
   pub is_legal : IsLegal share.seen
+  pub makes : IsTake turn → MadeNext share before
 
 -- on the record before, the page is accepted and adds `added`. The share then has seen the legal
--- record that ends with the page
+-- record that ends with the page, and made this event
 pub record Finds (number : ℕ) (page : PageData) (added : Added) (share : ShareData)
     (before : List EventData) : Type 0 where
   pub is_right : found_fault before number page.place ≡ None
   pub is_added : added_by before number page ≡ added
   pub is_after : share.seen ≡ before ++ Found number page ∷ []
   pub is_legal : IsLegal share.seen
+  pub makes : MadeNext share before
 
 -- on the record before, the number is out. The share then has seen the legal record that ends with
--- the failure
+-- the failure, and made this event
 pub record Fails (number : ℕ) (why : Why) (share : ShareData) (before : List EventData)
     : Type 0 where
   pub is_out : is_out_in before number ≡ true
   pub is_after : share.seen ≡ before ++ Failed number why ∷ []
   pub is_legal : IsLegal share.seen
+  pub makes : MadeNext share before
 
 -- a turn other than waiting for the outcomes of others
 abbrev pub IsNotIdle : TurnData → Type 0

@@ -1,5 +1,5 @@
 -- A record and what is published of it: the version of a writer, and the updates that wait.
-use Rattle.std.specs.Prelude.{ℕ, ◌≡◌, ◌+◌, ◌<◌, ◌⊎◌, Bool, true, false, List, [], drop, length, Option, Some, None}
+use Rattle.std.specs.Prelude.{ℕ, ◌≡◌, ◌+◌, ◌-◌, ◌<◌, ◌⊎◌, Bool, true, false, List, [], ◌++◌, drop, length, replicate, Option, Some, None}
 use Rattle.left_right.specs.declared.Absorb.{Ghosts}
 use Rattle.left_right.specs.declared.writer.Writer.{Writer}
 use Rattle.logbook.specs.Pages.{Book}
@@ -13,12 +13,18 @@ use Rattle.gopher_crew.specs.Admitted.{EventRule, AllAdmitted}
 use Rattle.gopher_text.specs.Watched.{CountsFailure}
 use Rattle.gopher_crew.specs.declared.publication.Published.{Published}
 
--- a record, the prefix of it that is published, and how many publications failed, counted up to
--- 2^64 - 1
+-- a record, who made each of its events, the prefix of it that is published, and how many
+-- publications failed, counted up to 2^64 - 1
 pub record PublicationData : Type 0 where
   pub events : List EventData
+  pub makers : List ℕ
   pub published : List EventData
   pub failed : ℕ
+
+-- the events that were added were all made by one share
+abbrev pub HasMade : ℕ → PublicationData → PublicationData → Type 0
+HasMade maker old new =
+    new.makers ≡ old.makers ++ replicate (length new.events - length old.events) maker
 
 -- the whole record is published, unless a publication failed
 abbrev pub IsShown : PublicationData → Type 0
@@ -49,13 +55,14 @@ pub record IsPublishedOf (it : Published) (record_ : List EventData) : Type 0 wh
   pub whole : (it.published ≡ it.events) ⊎ (0 < it.failed)
   pub legal : IsLegal record_
 
--- a legal record of admitted outcomes, which was entered, and the count of its events after the
--- first. All of it is published, unless a publication failed
+-- a legal record of admitted outcomes, which was entered, each event with its maker, and the count
+-- of its events after the first. All of it is published, unless a publication failed
 pub record KeepsRecord (admits : EventRule) (record_ : List EventData)
     (publication : PublicationData) (count : ℕ) : Type 0 where
   pub legal : IsLegal record_
   pub admitted : AllAdmitted admits record_
   pub entered : publication.events ≡ record_
+  pub made : length publication.makers ≡ length record_
   pub counted : length record_ ≡ count + 1
   pub shown : IsShown publication
 

@@ -95,8 +95,8 @@ MayHandIn admits number (Ok page) seen =
     MayAdd admits seen (Found number page) × MayAdd admits seen (Failed number NoMemory)
 MayHandIn admits number (Err why) seen = MayAdd admits seen (Failed number why)
 
--- the rule admits each event that records an outcome of a fetch, at a desk that was opened over this
--- record
+-- the rule admits each event that records an outcome of a fetch, at a desk that was opened over
+-- this record
 abbrev pub AdmitsFetched : {F : Type 0} → EventRule
     → (F → F → PlaceData → ℕ → OutcomeData → Type 0) → List EventData → Type 0
 AdmitsFetched {F} admits fetches opened =

@@ -48,6 +48,9 @@
 //! desk has that of the record it was opened with. The word of the history, behind the lock, is the
 //! history's length (`Head`).
 //!
+//! The history also has the maker of each event, the number of the share by which it was added. So
+//! no claim is handed to two workers (`laws::no_event_has_two_makers`).
+//!
 //! # One record
 //!
 //! `Desk::close` returns a catalogue whose record begins with what each share saw. `Pass::tell`

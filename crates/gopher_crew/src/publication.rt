@@ -5,7 +5,7 @@ ghost use mathlib.Core.List.{IsPrefix};
 ghost use Rattle.gopher_catalogue.specs.EventOf.{event_data};
 ghost use Rattle.gopher_crew.specs.Share.{CountsNote, Rises};
 ghost use Rattle.gopher_crew.specs.Kept.{IsNoted};
-ghost use Rattle.gopher_crew.specs.Publication.{CountsMissed, CountsPublication, IsShown, published_of, PagesFollow, ShowsRecord, waiting_updates, NextFollows, WriterCatchesUp, WriterFollows};
+ghost use Rattle.gopher_crew.specs.Publication.{CountsMissed, CountsPublication, HasMade, IsShown, published_of, PagesFollow, ShowsRecord, waiting_updates, NextFollows, WriterCatchesUp, WriterFollows};
 ghost use Rattle.gopher_crew.specs.Version.{version_data, IsVersion};
 
 pub mod entering;
@@ -50,8 +50,8 @@ pub struct Published {
 }
 
 /// The token of the record that was entered into the history, and the writer that publishes it,
-/// with the runtime by which it waits for readers. Contracts see the events that were entered, the
-/// published record, a prefix of them, and how many publications failed.
+/// with the runtime by which it waits for readers. Contracts see the events that were entered, who
+/// made each, the published record, a prefix of them, and how many publications failed.
 ///
 /// While an update waits because memory ran out, the writer's next version isn't the published one.
 /// At most one update waits.
@@ -73,6 +73,7 @@ impl<C: Crew, R: Wait + Drop> Model for Publication<C, R> {
 
     ghost view = { λ p. record {
       events = p.prefix.events;
+      makers = p.prefix.makers;
       published = p.writer.desk.shown.value.prefix.events;
       failed = p.failed;
     } };
@@ -161,6 +162,7 @@ impl<C: Crew, R: Wait + Drop> Publication<C, R> {
         requires history { prefix.history ≡ C.history }
         requires shown { ShowsRecord C.history prefix.events writer }
         ensures events { result.events ≡ prefix.events }
+        ensures makers { result.makers ≡ prefix.makers }
         ensures published { result.published ≡ prefix.events }
         ensures failed { result.failed ≡ 0 }
     {
@@ -185,6 +187,7 @@ impl<C: Crew, R: Wait + Drop> Publication<C, R> {
     /// Shows the record that was entered to a share.
     pub fn show(&self, share: &mut Share<C>)
         ensures seen { share.new.seen ≡ self.now.events }
+        ensures makers { share.new.makers ≡ self.now.makers }
         ensures share { Rises 0 share.old share.new }
         ensures missed { share.new.missed ≡ share.old.missed }
     {
@@ -226,6 +229,7 @@ impl<C: Crew, R: Wait + Drop> Publication<C, R> {
     fn try_publish(&mut self, catalogue: &Catalogue, renews: bool) -> bool
         requires { self.old.events ≡ catalogue.now }
         ensures events { self.new.events ≡ self.old.events }
+        ensures makers { self.new.makers ≡ self.old.makers }
         ensures published { IsTrue result → self.new.published ≡ self.old.events }
         ensures grows { IsPrefix self.old.published self.new.published }
         ensures failed { self.new.failed ≡ self.old.failed }
@@ -251,6 +255,7 @@ impl<C: Crew, R: Wait + Drop> Publication<C, R> {
     pub fn publish(&mut self, catalogue: &Catalogue, renews: bool) -> bool
         requires { self.old.events ≡ catalogue.now }
         ensures events { self.new.events ≡ self.old.events }
+        ensures makers { self.new.makers ≡ self.old.makers }
         ensures published { IsTrue result → self.new.published ≡ self.old.events }
         ensures grows { IsPrefix self.old.published self.new.published }
         ensures failed { CountsPublication result self.old.failed self.new.failed }
@@ -269,6 +274,7 @@ impl<C: Crew, R: Wait + Drop> Publication<C, R> {
     fn note(&mut self, catalogue: &Catalogue) -> Option<Note<C>>
         requires { self.old.events ≡ catalogue.now }
         ensures events { self.new.events ≡ self.old.events }
+        ensures makers { self.new.makers ≡ self.old.makers }
         ensures note { IsNoted result self.new }
         ensures grows { IsPrefix self.old.published self.new.published }
         ensures failed { CountsMissed result self.old.failed self.new.failed }
@@ -284,21 +290,30 @@ impl<C: Crew, R: Wait + Drop> Publication<C, R> {
         Some(Note::of(&self.prefix))
     }
 
-    /// Enters the new events of the catalogue, shows its record to a share, and publishes it.
+    /// Enters the new events of the catalogue, which a share made, shows the record to that share,
+    /// and publishes it.
     /// Returns a note exactly if the published record is then that of the catalogue. If it returns
     /// none, a publication failed, and the share counts a reply without a note.
     pub fn follow(&mut self, catalogue: &Catalogue, share: &mut Share<C>) -> Option<Note<C>>
         requires begun { IsPrefix self.old.events catalogue.now }
         ensures entered { self.new.events ≡ catalogue.now }
+        ensures made { HasMade share.old.number self.old self.new }
         ensures note { IsNoted result self.new }
         ensures grows { IsPrefix self.old.published self.new.published }
         ensures failed { CountsMissed result self.old.failed self.new.failed }
         ensures shown { IsShown self.new }
         ensures seen { share.new.seen ≡ catalogue.now }
+        ensures makers { share.new.makers ≡ self.new.makers }
         ensures share { Rises 0 share.old share.new }
         ensures missed { CountsNote result share.old.missed share.new.missed }
     {
-        enter(&self.rt, &mut self.prefix, &self.head, catalogue);
+        enter(
+            &self.rt,
+            &mut self.prefix,
+            &self.head,
+            catalogue,
+            share.number(),
+        );
         self.show(share);
         let note = self.note(catalogue);
         share.count_note(&note);

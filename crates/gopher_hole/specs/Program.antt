@@ -98,8 +98,8 @@ MayEndWith (ask.Serve serving) why = IsServerFault why
 MayEndWith (ask.Check checking) why = IsAnyFault why
 MayEndWith (ask.Told told) why = IsServingFault why
 
--- the program was asked for this, or had no memory to read what it was asked for, and wrote the line
--- of a fault with which that ends
+-- the program was asked for this, or had no memory to read what it was asked for, and wrote the
+-- line of a fault with which that ends
 abbrev pub SaysWhyAsked : {E : Type 0} → (E → Option (List ℕ)) → WatchedData E → WatchedData E
     → Type 0
 SaysWhyAsked contents old new =

@@ -58,7 +58,7 @@ abbrev pub IsCatalogueFault : Option OpenFault → ProgramFault → Type 0
 IsCatalogueFault due (fault.Open why) = IsOpenFault due why
 IsCatalogueFault due why = ⊥
 
--- why a desk isn't opened for so many passes and shares
+-- why a desk isn't opened for these numbers of passes and shares
 abbrev pub IsFaultOfDesk : ℕ → ℕ → ProgramFault → Type 0
 IsFaultOfDesk passes shares (fault.Desk why) = IsDeskFault passes shares why
 IsFaultOfDesk passes shares why = ⊥

@@ -41,14 +41,14 @@ IsDecimal text = IsNumeral 10 (without_leading_plus text)
 abbrev pub decimal_value : List ℕ → ℕ
 decimal_value text = digits_value 10 (without_leading_plus text)
 
--- a text is a decimal number before a letter that stands for so many bytes
+-- a text is a decimal number before a letter that stands for this number of bytes
 abbrev pub IsMultiple : List ℕ → List ℕ → ℕ → ℕ → Type 0
 IsMultiple text letter unit bytes =
     (digits : List ℕ) × (text ≡ digits ++ letter) × IsDecimal digits
     × (bytes ≡ decimal_value digits * unit)
 
--- a text names this number of bytes: a decimal number of them or, with `K`, `M` or `G` behind it, of
--- 2 ^ 10, 2 ^ 20 or 2 ^ 30 bytes
+-- a text names this number of bytes: a decimal number of them or, with `K`, `M` or `G` behind it,
+-- of 2 ^ 10, 2 ^ 20 or 2 ^ 30 bytes
 abbrev pub NamesBytes : List ℕ → ℕ → Type 0
 NamesBytes text bytes =
     (IsDecimal text × (bytes ≡ decimal_value text))

@@ -7,6 +7,7 @@ use crate::arguments::values::with_port;
 use crate::fault::ProgramFault;
 use gopher_item::{Home, NoMemory};
 use gopher_server::{MAX_LISTENERS, limit_send_buffers};
+use libc::net::{IPPROTO_TCP, TCP_NODELAY, getsockopt};
 use mio::net::TcpListener;
 use os::FromRawFd;
 use std::alloc::Global;
@@ -89,6 +90,13 @@ fn inherited_count<R: Env + AllocGlobal>(rt: &R) -> u8 {
     u8::try_from(count).unwrap_or(0).min(MAX_INHERITED)
 }
 
+// Whether a descriptor is a TCP socket: nothing else has this option.
+fn is_tcp(descriptor: u8) -> bool {
+    let socket = i32::from(descriptor);
+    let (mut value, mut len) = ([0u8; 16], 4);
+    unsafe { getsockopt(socket, IPPROTO_TCP, TCP_NODELAY, &mut value, &mut len) == 0 }
+}
+
 // The socket of a descriptor that no other value owns, as a listener whose `accept` never blocks.
 fn listener_of(descriptor: u8) -> TcpListener {
     let socket = i32::from(descriptor);
@@ -96,11 +104,29 @@ fn listener_of(descriptor: u8) -> TcpListener {
     unsafe { TcpListener::from_raw_fd(socket) }
 }
 
-// The sockets that systemd's socket activation hands to this process.
-fn inherited<R: Env + AllocGlobal>(rt: &R, alloc: Global) -> Result<Vec<TcpListener>, NoMemory> {
+// The sockets that systemd's socket activation hands to this process. At anything else a thread
+// would wait for ever or never wait. If `tells`, prints which it is.
+fn inherited<R: Env + Eprint + AllocGlobal>(
+    rt: &R,
+    alloc: Global,
+    tells: bool,
+) -> Result<Vec<TcpListener>, ProgramFault>
+    ensures { IfErr result IsServingFault }
+{
     let mut listeners = Vec::new(alloc);
     for index in 0..inherited_count(rt) {
-        listeners.push(listener_of(FIRST_INHERITED.saturating_add(index)))?;
+        let descriptor = FIRST_INHERITED.saturating_add(index);
+        if !is_tcp(descriptor) {
+            if tells {
+                let _ = eprintln!(rt;
+                    "hole: can't listen at descriptor {descriptor}: not a TCP socket"
+                );
+            }
+            return Err(ProgramFault::ListenFailed);
+        }
+        let Ok(()) = listeners.push(listener_of(descriptor)) else {
+            return Err(ProgramFault::NoMemory);
+        };
     }
     Ok(listeners)
 }
@@ -133,12 +159,12 @@ fn listen_at_all<R: Net + Eprint>(
 /// listens at each address of the host of `home`. The `accept` of a listener never blocks.
 ///
 /// If systemd's socket activation hands sockets to the process, it uses these instead of addresses.
-/// If `tells`, it prints on the error stream of `rt` which address can't be bound, and why. One
-/// that can is enough.
+/// Each has to be a TCP socket. If `tells`, it prints on the error stream of `rt` which isn't, or
+/// which address can't be bound, and why. One that can is enough.
 ///
 /// # Errors
 ///
-/// - `ListenFailed` (81): no address can be bound.
+/// - `ListenFailed` (81): no address can be bound, or what was handed over isn't a TCP socket.
 /// - `NoMemory` (90).
 pub fn listen<R: Net + Env + Eprint + AllocGlobal>(
     rt: &R,
@@ -149,7 +175,7 @@ pub fn listen<R: Net + Env + Eprint + AllocGlobal>(
 ) -> Result<Vec<TcpListener>, ProgramFault>
     ensures { IfErr result IsServingFault }
 {
-    let mut listeners = inherited(rt, alloc)?;
+    let mut listeners = inherited(rt, alloc, tells)?;
     if listeners.is_empty() {
         listeners = listen_at_all(rt, alloc, home, addresses, tells)?;
     }

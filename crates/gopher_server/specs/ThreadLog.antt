@@ -102,4 +102,5 @@ LogsLine accepted asked sent old new =
 abbrev pub LogsRequest : Option Accepted → Talk → ThreadLog → ThreadLog → Type 0
 LogsRequest None talk old new = new ≡ old
 LogsRequest (Some accepted) talk old new =
-    MatchOption (asked_of talk) (new ≡ old) (λ asked. LogsLine accepted asked (sent_of talk) old new)
+    MatchOption (asked_of talk) (new ≡ old)
+    (λ asked. LogsLine accepted asked (sent_of talk) old new)

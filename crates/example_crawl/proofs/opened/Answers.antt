@@ -13,5 +13,5 @@ closed-requires-clause-scope g c = λ κs lives.
 pub returns-in_ok-hits-in-Ok : goal.returns-in_ok-hits-in-Ok
 returns-in_ok-hits-in-Ok g c =
     opened_final c.args.scope g.T.Table.scope c.args.host.now g.T.Table.replies c.args.seeds.items _ _ c.args.query.now _
-    c.requires.scope c.requires.replies (c.in-Ok.ensures.desk ∙ c.in_ok-catalogue.ensures) c.in_ok-ending-in-Ok.ensures.goes_on c.in_ok-ending-in-Ok.ensures.admitted
+    c.requires.scope c.requires.replies (c.in-Ok.ensures.desk ∙ c.in_ok-catalogue.ensures) c.in_ok-ending-in-Ok.ensures.goes_on c.in_ok-ending-in-Ok.ensures.matches
     c.in_ok-hits-in-Ok.ensures

@@ -1,7 +1,7 @@
 use Rattle.std.proofs.Common.{List, subst}
 use mathlib.Core.List.{IsPrefix}
 use Rattle.gopher_catalogue.specs.declared.event.EventData.{EventData}
-use Rattle.gopher_crew.specs.Share.{ShareData}
+use Rattle.gopher_crew.specs.Share.{HasSeen, ShareData}
 use Rattle.gopher_crew.specs.Desk.{HasAllSeen}
 use Rattle.gopher_crew.proofs.Joining.{last_has_seen}
 use Rattle.gopher_crew.proofs.Prefixes.{prefix_trans}
@@ -12,18 +12,20 @@ use Rattle.example_crawl.proofs.search_and_close.Goals as goal
 pub returns-clause-first_begins : goal.returns-clause-first_begins
 returns-clause-first_begins g c =
     let record_ = c.in-Ok-close.catalogue in
-    let shown : IsPrefix c.tell-2.new.share.seen record_ =
-    last_has_seen record_ c.pop.new.self.items c.tell-2.new.share
-    (subst (λ (shares : List ShareData). HasAllSeen record_ shares) c.push_reserved.ensures.items c.in-Ok-close.ensures.closed.seen) in
+    let closed = c.in-Ok-close.ensures.closed in
+    let shown : HasSeen record_ closed.makers c.tell-2.new.share =
+    last_has_seen record_ closed.makers c.pop.new.self.items c.tell-2.new.share
+    (subst (λ (shares : List ShareData). HasAllSeen record_ closed.makers shares) c.push_reserved.ensures.items closed.seen) in
     subst (λ (told : List EventData). IsPrefix told record_) c.in-Ok.ensures.none_told
     (prefix_trans c.search.new.self.told c.tell.new.share.seen record_ c.tell.ensures.told
-    (prefix_trans c.tell.new.share.seen c.tell-2.new.share.seen record_ c.tell-2.ensures.share.seen shown))
+    (prefix_trans c.tell.new.share.seen c.tell-2.new.share.seen record_ c.tell-2.ensures.share.seen shown.events))
 
 pub returns-clause-second_begins : goal.returns-clause-second_begins
 returns-clause-second_begins g c =
     let record_ = c.in-Ok-close.catalogue in
-    let shown : IsPrefix c.tell-2.new.share.seen record_ =
-    last_has_seen record_ c.pop.new.self.items c.tell-2.new.share
-    (subst (λ (shares : List ShareData). HasAllSeen record_ shares) c.push_reserved.ensures.items c.in-Ok-close.ensures.closed.seen) in
+    let closed = c.in-Ok-close.ensures.closed in
+    let shown : HasSeen record_ closed.makers c.tell-2.new.share =
+    last_has_seen record_ closed.makers c.pop.new.self.items c.tell-2.new.share
+    (subst (λ (shares : List ShareData). HasAllSeen record_ closed.makers shares) c.push_reserved.ensures.items closed.seen) in
     subst (λ (told : List EventData). IsPrefix told record_) c.in-Ok-search.ensures.none_told
-    (prefix_trans c.search-2.new.self.told c.tell-2.new.share.seen record_ c.tell-2.ensures.told shown)
+    (prefix_trans c.search-2.new.self.told c.tell-2.new.share.seen record_ c.tell-2.ensures.told shown.events)

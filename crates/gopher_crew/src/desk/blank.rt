@@ -25,14 +25,15 @@ pub struct Blank {
 }
 
 impl Model for Blank {
-    ghost use Rattle.std.specs.Prelude.{◌≡◌};
+    ghost use Rattle.std.specs.Prelude.{◌≡◌, length, replicate};
     ghost use Rattle.gopher_crew.specs.Desk.{BlankData, blank_data};
 
     ghost Value = { BlankData };
 
     ghost view = { λ b. blank_data b.count.name b.count.parts b.prefix };
 
-    ghost invariant = { λ b. (b.count.parts ≡ 16) × (b.head ≡ b.prefix.history) };
+    ghost invariant = { λ b. (b.count.parts ≡ 16) × (b.head ≡ b.prefix.history)
+        × (b.prefix.makers ≡ replicate (length b.prefix.events) 0) };
 }
 
 impl fmt::Debug for Blank {
@@ -57,14 +58,14 @@ impl Blank {
         }
     }
 
-    /// Enters the rest of a catalogue's record into the history. Returns whether all of it is
-    /// entered then.
+    /// Enters the rest of a catalogue's record into the history, as made by the share 0. Returns
+    /// whether all of it is entered then.
     pub(crate) fn enter(&mut self, catalogue: &Catalogue) -> bool
         requires { IsPrefix self.old.begun catalogue.now }
         ensures back { ComesBack catalogue.now self.old self.new }
         ensures all { IsTrue result → self.new.begun ≡ catalogue.now }
     {
-        enter_rest(&mut self.prefix, &self.head, catalogue)
+        enter_rest(&mut self.prefix, &self.head, catalogue, 0)
     }
 
     /// Returns the token of the events that were entered.

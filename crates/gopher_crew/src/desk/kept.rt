@@ -30,9 +30,9 @@ use std::sync::Wait;
 use std::sync::ledger::Book;
 
 /// The catalogue of a crawl, the count of its events after the first, and its publication.
-/// Contracts see its record, the published one, which is a prefix of it, and how many publications
-/// failed. The published record is the whole record unless one failed. Each outcome in the record
-/// is admitted.
+/// Contracts see its record, who made each event, the published record, which is a prefix of it,
+/// and how many publications failed. The published record is the whole record unless one failed.
+/// Each outcome in the record is admitted.
 #[derive(Drop)]
 pub struct Kept<C: Crew, R: Wait + Drop, A: Admits> {
     catalogue: Catalogue,
@@ -52,6 +52,7 @@ impl<C: Crew, R: Wait + Drop, A: Admits> Model for Kept<C, R, A> {
 
     ghost view = { λ k. record {
       events = k.catalogue;
+      makers = k.publication.makers;
       published = k.publication.published;
       failed = k.publication.failed;
     } };
@@ -63,9 +64,11 @@ impl<C: Crew, R: Wait + Drop, A: Admits> Model for Kept<C, R, A> {
 // Counts the event of a turn, for the share and in the book. Only a turn that took a place has one.
 fn count<C: Crew>(turn: &Turn, share: &mut Share<C>, book: &mut Book<C>)
     requires { book.old.total < 2 ^ 63 }
+    ensures number { share.new.number ≡ share.old.number }
     ensures events { share.new.events ≡ share.old.events + rise_of (turn_data turn.now) }
     ensures parts { share.new.parts ≡ share.old.parts }
     ensures seen { share.new.seen ≡ share.old.seen }
+    ensures makers { share.new.makers ≡ share.old.makers }
     ensures missed { share.new.missed ≡ share.old.missed }
     ensures total { book.new.total ≡ book.old.total + rise_of (turn_data turn.now) }
 {
@@ -102,11 +105,13 @@ impl<C: Crew, R: Wait + Drop, A: Admits> Kept<C, R, A> {
         publication: Publication<C, R>,
     ) -> Kept<C, R, A>
         requires entered { publication.events ≡ catalogue }
+        requires made { length publication.makers ≡ length catalogue }
         requires published { publication.published ≡ catalogue }
         requires legal { IsLegal catalogue }
         requires admitted { AllAdmitted A.admits catalogue }
         requires counted { length catalogue ≡ book.total + 1 }
         ensures events { result.events ≡ catalogue }
+        ensures makers { result.makers ≡ publication.makers }
         ensures published { result.published ≡ catalogue }
         ensures failed { result.failed ≡ publication.failed }
     {
@@ -124,7 +129,7 @@ impl<C: Crew, R: Wait + Drop, A: Admits> Kept<C, R, A> {
     ///
     /// # Errors
     /// `NoMemory` (90), only if a place waits. Only what the share saw changes then.
-    #[tactic(auto, using(crate::proofs::Keeping::turn_keeps, crate::proofs::Keeping::turn_counts, crate::proofs::Admitting::turn_admitted))]
+    #[tactic(auto, using(crate::proofs::Keeping::turn_keeps, crate::proofs::Keeping::keeps_turn, crate::proofs::Making::makes_turn))]
     pub fn claim(&mut self, share: &mut Share<C>) -> Result<(Turn, Option<Note<C>>), NoMemory>
         ensures call { IsCall self.old share.old self.new share.new }
         ensures turn { IfOk result (λ reply. Claims (turn_data reply.0) share.new self.old.events) }
@@ -152,7 +157,7 @@ impl<C: Crew, R: Wait + Drop, A: Admits> Kept<C, R, A> {
     /// - `NotOut` (52): the number isn't out.
     /// - `WrongPlace` (53): the page is of another place.
     /// - `NoMemory` (90).
-    #[tactic(auto, using(crate::proofs::Admitting::added_admitted))]
+    #[tactic(auto, using(crate::proofs::Making::makes_last))]
     pub fn found(
         &mut self,
         share: &mut Share<C>,
@@ -184,7 +189,7 @@ impl<C: Crew, R: Wait + Drop, A: Admits> Kept<C, R, A> {
     ///
     /// # Errors
     /// `FailRefused` (52): the number isn't out. Only what the share saw changes then.
-    #[tactic(auto, using(crate::proofs::Admitting::added_admitted))]
+    #[tactic(auto, using(crate::proofs::Making::makes_last))]
     pub fn fail(
         &mut self,
         share: &mut Share<C>,
@@ -262,7 +267,7 @@ impl<C: Crew, R: Wait + Drop, A: Admits> Kept<C, R, A> {
         ensures same { self.new ≡ self.old }
         ensures sum { result ≡ events_of shares.old.items }
         ensures joined { CountTheSame shares.old.items shares.new.items }
-        ensures seen { HasAllSeen self.old.events shares.old.items }
+        ensures seen { HasAllSeen self.old.events self.old.makers shares.old.items }
         ensures whole { HasAll C.parts shares.old.items → length self.old.events ≡ result + 1 }
     {
         let Some(mut all) = shares.pop() else {
@@ -279,6 +284,7 @@ impl<C: Crew, R: Wait + Drop, A: Admits> Kept<C, R, A> {
     pub(crate) fn until_begins(&self, opened: &RecordPrefix)
         requires { opened.now.history ≡ C.history }
         ensures begins { IsPrefix opened.now.events self.now.events }
+        ensures made { length self.now.makers ≡ length self.now.events }
         ensures legal { IsLegal self.now.events }
     {
         self.publication.until_begins(opened);

@@ -96,7 +96,7 @@ pub fn writer_with_passes<C: Crew, R: Wait>(
 }
 
 /// Cuts a ledger of 16 parts into `shares` shares, and appends them to a list that has room. The
-/// first share counts all events so far. All have seen this record.
+/// first share counts all events so far, and made them. All have seen this record.
 pub fn cut<C: Crew>(
     whole: Part<C>,
     events: u64,
@@ -105,6 +105,7 @@ pub fn cut<C: Crew>(
     list: &mut Vec<Share<C>>,
 )
     requires history { prefix.now.history ≡ C.history }
+    requires made { prefix.now.makers ≡ replicate (length prefix.now.events) 0 }
     requires parts { whole.parts ≡ 16 }
     requires events { (whole.amount ≡ events) × (length prefix.now.events ≡ events + 1) }
     requires counts { (1 ≤ shares) × (shares ≤ 16) }
@@ -114,9 +115,9 @@ pub fn cut<C: Crew>(
 {
     let mut whole = whole;
     let first = whole.split_off(PARTS + 1 - u64::from(shares), events);
-    list.push_reserved(Share::of(events, first, prefix.copy()));
-    for _index in 0..shares - 1 {
+    list.push_reserved(Share::of(0, events, first, prefix.copy()));
+    for index in 0..shares - 1 {
         let part = whole.split_off(1, 0);
-        list.push_reserved(Share::of(0, part, prefix.copy()));
+        list.push_reserved(Share::of(index + 1, 0, part, prefix.copy()));
     }
 }

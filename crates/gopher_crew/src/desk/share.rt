@@ -1,9 +1,9 @@
-//! `Share`: how many of a desk's events a worker made, which record its last reply was on, and how
-//! many replies had no note.
+//! `Share`: which and how many of a desk's events a worker made, which record its last reply was
+//! on, and how many replies had no note.
 
 ghost use Rattle.std.specs.Prelude.{◌≡◌, ◌+◌, ◌<◌, ◌≤◌, ◌^◌, false, IsTrue};
 ghost use mathlib.Core.List.{IsPrefix};
-ghost use Rattle.gopher_crew.specs.Share.{CountsNote, Rises};
+ghost use Rattle.gopher_crew.specs.Share.{CountsNote, HasSeen, Rises};
 
 use crate::crew::Crew;
 use crate::publication::note::Note;
@@ -13,11 +13,13 @@ use std::marker::Model;
 use std::sync::Wait;
 use std::sync::ledger::{Book, Share as Part};
 
-/// A share of a desk's ledger. It counts the events that its holder made at the desk, and the
-/// replies that had no note. It has the token of what it saw: the record that the last reply to its
-/// holder was on, or a longer one that a pass told it of.
+/// A share of a desk's ledger, with a number among the shares of its desk. It counts the events
+/// that its holder made at the desk, and the replies that had no note. It has the token of what it
+/// saw: the record that the last reply to its holder was on, or a longer one that a pass told it
+/// of, with the number of the share that made each event.
 #[derive(Drop)]
 pub struct Share<C: Crew> {
+    number: u32,
     count: u64,
     part: Part<C>,
     seen: RecordPrefix,
@@ -31,9 +33,11 @@ impl<C: Crew> Model for Share<C> {
     ghost Value = { ShareData };
 
     ghost view = { λ s. record {
+      number = s.number;
       events = s.part.amount;
       parts = s.part.parts;
       seen = s.seen.events;
+      makers = s.seen.makers;
       missed = s.missed;
     } };
 
@@ -44,28 +48,39 @@ impl<C: Crew> Model for Share<C> {
 impl<C: Crew> fmt::Debug for Share<C> {
     fn fmt<W: fmt::Write>(&self, f: &mut fmt::Formatter<W>) -> fmt::Result {
         f.debug_struct("Share")
+            .field("number", &self.number)
             .field("count", &self.count)
             .finish_non_exhaustive()
     }
 }
 
 impl<C: Crew> Share<C> {
-    /// A share with these parts, which counts their events and has seen this record.
-    pub(crate) fn of(count: u64, part: Part<C>, seen: RecordPrefix) -> Share<C>
+    /// The share of a number with these parts, which counts their events and has seen this record.
+    pub(crate) fn of(number: u32, count: u64, part: Part<C>, seen: RecordPrefix) -> Share<C>
         requires count { count ≡ part.amount }
         requires some { 0 < part.parts }
         requires history { seen.history ≡ C.history }
+        ensures number { result.number ≡ number }
         ensures events { result.events ≡ part.amount }
         ensures parts { result.parts ≡ part.parts }
         ensures seen { result.seen ≡ seen.events }
+        ensures makers { result.makers ≡ seen.makers }
         ensures missed { result.missed ≡ 0 }
     {
         Share {
+            number,
             count,
             part,
             seen,
             missed: 0,
         }
+    }
+
+    /// Returns its number. Shares of one desk have different numbers.
+    pub fn number(&self) -> u32
+        ensures { result ≡ self.now.number }
+    {
+        self.number
     }
 
     /// Returns the number of events that it counts.
@@ -103,9 +118,11 @@ impl<C: Crew> Share<C> {
     /// Counts one more event, here and in the book.
     pub(crate) fn add(&mut self, book: &mut Book<C>)
         requires { book.old.total < 2 ^ 63 }
+        ensures number { self.new.number ≡ self.old.number }
         ensures events { self.new.events ≡ self.old.events + 1 }
         ensures parts { self.new.parts ≡ self.old.parts }
         ensures seen { self.new.seen ≡ self.old.seen }
+        ensures makers { self.new.makers ≡ self.old.makers }
         ensures missed { self.new.missed ≡ self.old.missed }
         ensures total { book.new.total ≡ book.old.total + 1 }
     {
@@ -117,9 +134,11 @@ impl<C: Crew> Share<C> {
     /// Counts a reply if it has no note.
     pub(crate) fn count_note(&mut self, note: &Option<Note<C>>)
         ensures missed { CountsNote note.now self.old.missed self.new.missed }
+        ensures number { self.new.number ≡ self.old.number }
         ensures events { self.new.events ≡ self.old.events }
         ensures parts { self.new.parts ≡ self.old.parts }
         ensures seen { self.new.seen ≡ self.old.seen }
+        ensures makers { self.new.makers ≡ self.old.makers }
     {
         match note {
             Some(_) => {}
@@ -134,14 +153,15 @@ impl<C: Crew> Share<C> {
         ensures total { book.new.total ≡ book.old.total }
         ensures events { self.new.events ≡ self.old.events + other.events }
         ensures parts { self.new.parts ≡ self.old.parts + other.parts }
-        ensures seen { IsPrefix self.old.seen self.new.seen }
-        ensures other { IsPrefix other.seen self.new.seen }
+        ensures seen { HasSeen self.new.seen self.new.makers self.old }
+        ensures other { HasSeen self.new.seen self.new.makers other }
         ensures whole { self.new.parts ≡ C.parts → self.new.events ≡ book.old.total }
     {
         let mut other = other;
         other.audit(book);
         self.audit(book);
         let Share {
+            number: _number,
             count,
             part,
             seen,
@@ -158,6 +178,7 @@ impl<C: Crew> Share<C> {
     pub(crate) fn hear(&mut self, prefix: &RecordPrefix)
         requires { prefix.now.history ≡ C.history }
         ensures heard { IsPrefix prefix.now.events self.new.seen }
+        ensures makers { IsPrefix prefix.now.makers self.new.makers }
         ensures share { Rises 0 self.old self.new }
         ensures missed { self.new.missed ≡ self.old.missed }
     {
@@ -169,6 +190,7 @@ impl<C: Crew> Share<C> {
     pub(crate) fn see<R: Wait>(&mut self, rt: &R, prefix: &RecordPrefix)
         requires { prefix.now.history ≡ C.history }
         ensures seen { self.new.seen ≡ prefix.now.events }
+        ensures makers { self.new.makers ≡ prefix.now.makers }
         ensures share { Rises 0 self.old self.new }
         ensures missed { self.new.missed ≡ self.old.missed }
     {

@@ -3,7 +3,7 @@
 ghost use Rattle.std.specs.Prelude.{◌≡◌, ◌+◌, ◌<◌, ◌^◌, ◌⊎◌, false, [], length, IsTrue};
 ghost use mathlib.Core.List.{IsPrefix};
 ghost use Rattle.gopher_catalogue.specs.EventOf.{event_data};
-ghost use Rattle.gopher_crew.specs.History.{AddsEventTo};
+ghost use Rattle.gopher_crew.specs.History.{AddsEventTo, GoesOn};
 
 use crate::publication::history::{Head, Law, exchange};
 use gopher_catalogue::{Event, EventData};
@@ -13,20 +13,24 @@ use std::marker::Model;
 use std::sync::Wait;
 
 /// A token that the crew's record begins with certain events. The program keeps only their number.
-/// Contracts see the events, and which history has them.
+/// Contracts see the events, the number of the share that made each, and which history has them.
 #[derive(Drop)]
 pub struct RecordPrefix {
     len: u32,
-    seen: Seen<EventData, u64, Law>,
+    seen: Seen<(EventData, u32), u64, Law>,
 }
 
 impl Model for RecordPrefix {
     ghost use Rattle.std.specs.Prelude.{◌≡◌, length};
-    ghost use Rattle.gopher_crew.specs.History.{RecordPrefixData};
+    ghost use Rattle.gopher_crew.specs.History.{RecordPrefixData, events_in, makers_in};
 
     ghost Value = { RecordPrefixData };
 
-    ghost view = { λ p. record { history = p.seen.book; events = p.seen.log } };
+    ghost view = { λ p. record {
+      history = p.seen.book;
+      events = events_in p.seen.log;
+      makers = makers_in p.seen.log;
+    } };
 
     ghost invariant = { λ p. p.len ≡ length p.seen.log };
 }
@@ -41,10 +45,11 @@ impl fmt::Debug for RecordPrefix {
 
 impl RecordPrefix {
     /// The prefix without events of a new history.
-    pub(crate) fn empty(seen: Seen<EventData, u64, Law>) -> RecordPrefix
+    pub(crate) fn empty(seen: Seen<(EventData, u32), u64, Law>) -> RecordPrefix
         requires { seen.log ≡ [] }
         ensures history { result.history ≡ seen.book }
         ensures events { result.events ≡ [] }
+        ensures makers { result.makers ≡ [] }
     {
         RecordPrefix { len: 0, seen }
     }
@@ -70,8 +75,8 @@ impl RecordPrefix {
     /// begins with the other.
     pub fn begins(&self, other: &RecordPrefix) -> bool
         requires { other.now.history ≡ self.now.history }
-        ensures begins { IsTrue result → IsPrefix self.now.events other.now.events }
-        ensures or_else { (result ≡ false) → IsPrefix other.now.events self.now.events }
+        ensures begins { IsTrue result → GoesOn self.now other.now }
+        ensures or_else { (result ≡ false) → GoesOn other.now self.now }
     {
         let mut both = self.seen.again();
         both.learn(&other.seen);
@@ -84,7 +89,7 @@ impl RecordPrefix {
     /// Returns if another prefix of the same history begins with this one, and otherwise never.
     pub fn until_begins<R: Wait>(&self, rt: &R, other: &RecordPrefix)
         requires { other.now.history ≡ self.now.history }
-        ensures { IsPrefix self.now.events other.now.events }
+        ensures { GoesOn self.now other.now }
     {
         for _round in rt.forever() {
             if self.begins(other) {
@@ -111,8 +116,8 @@ impl RecordPrefix {
     pub fn longer(&self, other: &RecordPrefix) -> RecordPrefix
         requires { other.now.history ≡ self.now.history }
         ensures one { (result ≡ self.now) ⊎ (result ≡ other.now) }
-        ensures this { IsPrefix self.now.events result.events }
-        ensures that { IsPrefix other.now.events result.events }
+        ensures this { GoesOn self.now result }
+        ensures that { GoesOn other.now result }
     {
         if self.begins(other) {
             other.copy()
@@ -121,16 +126,16 @@ impl RecordPrefix {
         }
     }
 
-    /// Adds an event to the history, unless the history is longer than this prefix. Returns whether
-    /// it did.
-    pub fn add(&mut self, head: &Head, event: &Event) -> bool
+    /// Adds an event to the history, with the number of the share that made it, unless the history
+    /// is longer than this prefix. Returns whether it did.
+    pub fn add(&mut self, head: &Head, event: &Event, maker: u32) -> bool
         requires history { head.now ≡ self.old.history }
         requires room { length self.old.events + 1 < 2 ^ 32 }
         ensures history { self.new.history ≡ self.old.history }
-        ensures events { AddsEventTo result (event_data event.now) self.old self.new }
+        ensures events { AddsEventTo result (event_data event.now, maker) self.old self.new }
     {
         let mut seen = self.seen.again();
-        if !exchange(&head.word, self.len, &mut seen, event) {
+        if !exchange(&head.word, self.len, &mut seen, event, maker) {
             return false;
         }
         self.len += 1;

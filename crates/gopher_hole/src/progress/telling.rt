@@ -52,8 +52,8 @@ pub fn newly_stopped(told: u64, stopped: u64) -> Option<u64>
     if told < stopped { Some(stopped) } else { None }
 }
 
-/// Returns whether to tell that so many pages were left out for the limit of memory. That is told
-/// once.
+/// Returns whether to tell that this number of pages was left out for the limit of memory. That is
+/// told once.
 pub fn is_limit_due(is_told: bool, past_limit: u64) -> bool
     ensures { result ≡ is_limit_due is_told past_limit }
 {

@@ -1,4 +1,4 @@
-use Rattle.std.proofs.Common.{◌≡◌, ◌∙◌, List, ap, rules, subst, sym}
+use Rattle.std.proofs.Common.{◌≡◌, ◌∙◌, List, ap, length, rules, subst, sym}
 use mathlib.Core.List.{IsPrefix}
 use Rattle.gopher_catalogue.specs.declared.event.EventData.{EventData}
 use Rattle.gopher_catalogue.specs.Legal.{IsLegal}
@@ -12,6 +12,8 @@ returns-clause-closed g c =
     record {
       legal = subst (λ (events : List EventData). IsLegal events) (sym same) c.until_begins.ensures.legal;
       goes_on = subst (λ (events : List EventData). IsPrefix c.args.self events) (sym same) (search rules);
-      seen = subst (λ (events : List EventData). HasAllSeen events c.args.shares.items) (sym same) c.gather-sum.ensures.seen;
+      makers = c.into_inner-kept.result.makers;
+      made = c.until_begins.ensures.made ∙ ap (λ (events : List EventData). length events) (sym same);
+      seen = subst (λ (events : List EventData). HasAllSeen events c.into_inner-kept.result.makers c.args.shares.items) (sym same) c.gather-sum.ensures.seen;
       counted = search rules;
     }

@@ -1,10 +1,9 @@
 use Rattle.std.proofs.Common.{◌≡◌, [], List, arith, rules, subst, sym}
 use Rattle.std.proofs.lemmas.Grind.{common_steps}
 use Rattle.std.proofs.lemmas.List.Elements.{All-nil, All-push}
-use mathlib.Core.List.{IsPrefix}
-use Rattle.gopher_crew.specs.Share.{ShareData}
+use Rattle.gopher_crew.specs.Share.{ShareData, HasSeen}
 use Rattle.gopher_crew.specs.Desk.{HasAllSeen}
-use Rattle.gopher_crew.proofs.Prefixes.{prefix_trans}
+use Rattle.gopher_crew.proofs.Joining.{seen_less}
 use Rattle.gopher_crew.proofs.desk.closing.join.Goals as goal
 
 pub loop-share-preserved : goal.loop-share-preserved
@@ -12,12 +11,12 @@ loop-share-preserved g c = record {
   total = search rules;
   events = grind (arith, common_steps);
   parts = grind (arith, common_steps);
-  seen = λ record_ begins seen.
-      c.loop-share.invariant.seen record_
-      (prefix_trans c.loop-share.all.seen c.merge.new.self.seen record_ c.merge.ensures.seen begins)
-      (subst (λ (shares : List ShareData). HasAllSeen record_ shares) (sym c.in-Some.ensures.items)
-      (All-push (λ (share : ShareData). IsPrefix share.seen record_) c.pop.new.self.items c.in-Some.share seen
-      (prefix_trans c.in-Some.share.seen c.merge.new.self.seen record_ c.merge.ensures.other begins)));
+  seen = λ record_ makers begins seen.
+      c.loop-share.invariant.seen record_ makers
+      (seen_less record_ makers c.loop-share.all c.merge.new.self c.merge.ensures.seen begins)
+      (subst (λ (shares : List ShareData). HasAllSeen record_ makers shares) (sym c.in-Some.ensures.items)
+      (All-push (HasSeen record_ makers) c.pop.new.self.items c.in-Some.share seen
+      (seen_less record_ makers c.in-Some.share c.merge.new.self c.merge.ensures.other begins)));
   whole = search rules;
   room = search rules;
 }
@@ -28,7 +27,7 @@ returns-clause-joined g c =
     record {
       events = grind (arith, common_steps, none, c.loop-share.invariant.events);
       parts = grind (arith, common_steps, none, c.loop-share.invariant.parts);
-      seen = λ record_ begins.
-          c.loop-share.invariant.seen record_ begins
-          (subst (λ (shares : List ShareData). HasAllSeen record_ shares) (sym none) (All-nil (λ (share : ShareData). IsPrefix share.seen record_)));
+      seen = λ record_ makers begins.
+          c.loop-share.invariant.seen record_ makers begins
+          (subst (λ (shares : List ShareData). HasAllSeen record_ makers shares) (sym none) (All-nil (HasSeen record_ makers)));
     }

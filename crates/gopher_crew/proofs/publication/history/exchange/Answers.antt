@@ -12,5 +12,5 @@ compare_exchange-found-requires c =
       sym (ap (λ w. w.book) h),
       pen.0 ∙ sym (ap (λ w. w.book) h),
       offer.0,
-      rw (ap (λ w. w.key) h, pen.1, offer.1, offer.3) (adds_moves c.args.seen.now.log (event_data c.args.event.now) c.from-old.result (sym c.requires.len ∙ sym c.from-old.ensures)),
+      rw (ap (λ w. w.key) h, pen.1, offer.1, offer.3) (adds_moves c.args.seen.now.log (event_data c.args.event.now, c.args.maker) c.from-old.result (sym c.requires.len ∙ sym c.from-old.ensures)),
     )
