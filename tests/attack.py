@@ -47,6 +47,9 @@ DEAF_CROWD, MAX_HELD_BY_CROWD = 3_000, 450_000_000
 ANY_ADDRESS = ("--clients-per-address", 100_000)
 DOWNLOADS = 5
 LINGERS = 16  # seconds
+# A server that waits by a time of its start waits for as long as it has been up.
+SECONDS_UP, SECONDS_UP_FOR_LONG = 3.0, 6.0
+HALF_CLOSED = 8
 DEAF_TO_LARGE = 20
 WAITING = 1_000
 MAX_FOR_WAITING = 8_192  # KiB, with what the search takes whose turn it is; begun searches of WAITING clients take 25,000
@@ -374,6 +377,8 @@ def attack_by_one_address(attacked):
         time.sleep(0.3)
         again = clients_of(ends, server, PLACES // 4)
         attacked.expect("closed connections of the address after those are gone", settled(again, 1), [])
+    with attacked.serving("--clients-per-address", 3, more="threads = 2\n") as server, contextlib.ExitStack() as ends:
+        attacked.expect("closed connections of an address that may hold three", settled(clients_of(ends, server, 5), 2), [3, 4])
 
 
 def connect_from(address, port):
@@ -382,15 +387,20 @@ def connect_from(address, port):
 
 
 def attack_by_staying(attacked):
-    """A client that has the whole of a large reply and stays is closed after 16 seconds."""
-    with attacked.serving(more="threads = 1\n") as server, connect(server.port) as client:
+    """A client that has the whole of a large reply and resets is closed at once, and one that stays after 16 seconds, however long
+    the server has been up."""
+    with attacked.serving(more="threads = 1\n") as server:
         polls = Polls(server, 1)
-        client.sendall(b"/large.png\r\n")
-        attacked.expect("a large reply", read_all(client) == LARGE, True)
-        began, held = time.monotonic(), polls.held()
-        until_true(lambda: polls.held() != held, LINGERS + SOON)
-        seconds = time.monotonic() - began
-        attacked.expect(f"closed after {LINGERS} seconds, not {seconds:.1f}", abs(seconds - LINGERS) < 2.0, True)
+        time.sleep(SECONDS_UP_FOR_LONG)
+        for end, wanted in ((reset, 0), (is_open, LINGERS)):
+            with connect(server.port) as client:
+                client.sendall(b"/large.png\r\n")
+                attacked.expect("a large reply", read_all(client) == LARGE, True)
+                began, held = time.monotonic(), polls.held()
+                end(client)
+                until_true(lambda: polls.held() != held, LINGERS + SOON)
+            seconds = time.monotonic() - began
+            attacked.expect(f"closed after {wanted} seconds, not {seconds:.1f}", abs(seconds - wanted) < 2.0, True)
 
 
 def open_files(number):
@@ -402,13 +412,30 @@ def open_files(number):
     return held
 
 
+def limit_files(server, files):
+    """Lets a server hold so many files open."""
+    number = server.process.pid
+    resource.prlimit(number, resource.RLIMIT_NOFILE, (files, resource.prlimit(number, resource.RLIMIT_NOFILE)[1]))
+
+
+def attack_by_refused_reports(attacked):
+    """Descriptors are short for a moment, after which the system refuses once to report clients: the one that waited is answered."""
+    before = attacked.test.preload("refusing", REFUSED_REPORT=2)
+    with attacked.serving("--requests", 1, more="threads = 1\n", before=before) as server:
+        limit_files(server, open_files(server.process.pid))
+        with connect(server.port) as waiting:
+            waiting.sendall(b"/a.txt\r\n")
+            time.sleep(0.3)
+            limit_files(server, 1_024)
+            attacked.expect("a client that waited for a report", read_all(waiting), b"hello\r\n.\r\n")
+
+
 def attack_by_refused_accepts(attacked):
     """Descriptors are short for a moment: a client waits, or the one idle longest is closed; no thread ends."""
     with contextlib.ExitStack() as ends:
         server = ends.enter_context(attacked.serving("--requests", 14, more="threads = 2\n"))
-        number = server.process.pid
-        _, most = resource.prlimit(number, resource.RLIMIT_NOFILE)
-        limit = lambda files: resource.prlimit(number, resource.RLIMIT_NOFILE, (files, most))
+        number, limit = server.process.pid, functools.partial(limit_files, server)
+        time.sleep(SECONDS_UP)
         limit(open_files(number))
         waiting, = clients_of(ends, server, 1)
         waiting.sendall(b"/a.txt\r\n")
@@ -483,14 +510,14 @@ def attack_by_deaf_crowd(attacked):
 
 
 def attack_by_large_replies(attacked):
-    """Many clients ask for a large menu or a large text and read nothing: the server holds no copy for each."""
+    """Many clients ask for a large menu or a large text of a folder and read nothing: the server holds no copy for each."""
     lines, host = 65_000, "h" * 250
-    root = attacked.test.site({".menu": b"\n" * lines, "large.txt": (b"m" * 255 + b"\n") * lines})
+    root = attacked.test.site({".menu": b"\n" * lines, "docs/large.txt": (b"m" * 255 + b"\n") * lines})
     with contextlib.ExitStack() as ends:
         server = ends.enter_context(attacked.test.serving(root, "--listen", HOST, host=host))
         wanted = {
             b"\r\n": b"i\t\t%s\t%d\r\n" % (host.encode(), server.port) * lines + b".\r\n",
-            b"/large.txt\r\n": (b"m" * 255 + b"\r\n") * lines + b".\r\n",
+            b"/docs/large.txt\r\n": (b"m" * 255 + b"\r\n") * lines + b".\r\n",
         }
         for line, reply in wanted.items():
             attacked.expect(f"the large reply to {line} is sent whole", ask(server.port, line) == reply, True)
@@ -502,6 +529,21 @@ def attack_by_large_replies(attacked):
         what = f"{held} KiB for {DEAF_TO_LARGE} deaf clients of large replies"
         attacked.expect(f"{what} are below {MAX_FOR_LARGE}", held < MAX_FOR_LARGE, True)
         print(f"attack: {what}", flush=True)
+
+
+def check_half_closed(attacked, server, wanted):
+    """Clients whose lines come in two parts, and that end their sides while their searches wait for their turn, are answered."""
+    with contextlib.ExitStack() as ends:
+        clients = clients_of(ends, server, len(wanted))
+        for client, (line, _) in zip(clients, wanted):
+            client.sendall(line[:16])
+        time.sleep(0.2)
+        for client, (line, _) in zip(clients, wanted):
+            client.sendall(line[16:])
+        for client in clients:
+            client.shutdown(socket.SHUT_WR)
+        replies = [read_all(client) for client in clients]
+        attacked.expect("searches of clients that ended their sides", replies, [reply for _, reply in wanted])
 
 
 def check_waiting(attacked, server, line):
@@ -536,6 +578,7 @@ def attack_by_searches(attacked):
         wanted = [(b"/search\t%s\r\n" % text.encode(), heavy.site.search(text.encode())) for text in heavy_texts()]
         for line, reply in wanted:
             attacked.expect(f"the reply to {line[:40]!r}", ask_whole(server.port, line), reply)
+        check_half_closed(attacked, server, wanted * HALF_CLOSED)
         check_waiting(attacked, server, wanted[0][0])
         flooded = others.submit(flood, server.port, wanted[:1] + wanted[-1:], HEAVY, seconds + 2)
         time.sleep(1.5)
@@ -551,8 +594,8 @@ def attack_by_searches(attacked):
 
 ATTACKS = (
     attack_by_crowd, attack_by_lines, attack_by_senders, attack_by_waiting, attack_by_excess, attack_by_use,
-    attack_by_connecting, attack_by_one_address, attack_by_refused_accepts, attack_by_deaf, attack_by_deaf_crowd,
-    attack_by_large_replies, attack_by_searches,
+    attack_by_connecting, attack_by_one_address, attack_by_refused_reports, attack_by_refused_accepts, attack_by_deaf,
+    attack_by_deaf_crowd, attack_by_large_replies, attack_by_searches,
 )
 
 

@@ -153,12 +153,13 @@ def both(first, second):
     return lambda site: [first(site), second(site)]
 
 
-def put_sparse(*sizes):
-    """Sparse files of these sizes in bytes."""
+def put_sparse(*sizes, front=""):
+    """Sparse files of these sizes in bytes, by names that begin so."""
     def lay_out(site):
         for number, size in enumerate(sizes):
-            site.add(b"%d.gif" % number)
-            os.truncate(site.root / f"{number}.gif", size)
+            name = f"{front}{number}.gif"
+            site.add(name.encode())
+            os.truncate(site.root / name, size)
     return lay_out
 
 
@@ -222,6 +223,11 @@ FAULTS = {
     "too many folders": (
         put_folders(MOST_NODES + 5), "23 file 0",
         report("23", f"ROOT/{MOST_NODES - 1:04}", MANY, f"size: {MOST_NODES + 1}") + WHOLE.format(0, MOST_NODES + 6, 0).encode(),
+    ),
+    "too many folders behind files of the most bytes": (
+        both(put_sparse(*MOST_FILES, front="!"), put_folders(MOST_NODES - len(MOST_FILES))), f"23 file {len(MOST_FILES)}",
+        report("23", f"ROOT/{MOST_NODES - len(MOST_FILES) - 1:04}", MANY, f"size: {MOST_NODES + 1}")
+        + WHOLE.format(len(MOST_FILES), MOST_NODES - len(MOST_FILES) + 1, MOST_BYTES).encode(),
     ),
     "a bad line": (put(b"docs/.menu", b"text\n\n1a\tb\tc\n"), "24 file 0 line 3", "ROOT/docs/.menu", BAD_LINE, "line: 3"),
     "a port that is none": (put(b".menu", b"1a\tb\tc\t70000\n"), "24 file 0 line 1", "ROOT/.menu", BAD_LINE, "line: 1"),
@@ -364,6 +370,10 @@ def check_limits(test):
     site.add(b"zz")
     test.expect("the most folders and a file", site.check()[1:], (b"hole: 23 file 0\n", 1))
     site = Site(test)
+    put_folders(MOST_NODES - 1)(site)
+    site.add(b"%04d/a" % (MOST_NODES - 2))
+    test.expect("the most folders, and a file in the last", site.check()[1:], (b"hole: 23 file 0\n", 1))
+    site = Site(test)
     put_folders(MOST_NODES - 2)(site)
     last = b"%04d/" % (MOST_NODES - 3)
     site.add(last + b"a")
@@ -374,6 +384,9 @@ def check_limits(test):
     test.expect("the most files", site.check()[1:], (b"", 0))
     site.add(b"folder/last")
     test.expect("the most files and another", site.check()[1:], (b"hole: 23 file %d\n" % (MOST_NODES - 2), 1))
+    (site.root / "folder/last").rename(site.root / "search")
+    test.expect("the most files and one with a reserved name", site.check()[1:], (b"hole: 21 file %d\n" % (MOST_NODES - 2), 1))
+    (site.root / "search").unlink()
     site.add(b"folder/.menu", b"x\ta\tb")
     site.write(HEAD + 'root = "ROOT/"\n')
     test.expect("a root that ends with a slash", site.check()[1:], (b"hole: 24 file 0 line 1\n", 1))

@@ -6,8 +6,8 @@
 `hole serve SETTINGS --crawl-memory BYTES`: the program serves a folder of texts of one size and crawls itself with one worker.
 The size of each page follows from the formula in docs/SPECIFICATION.md, so it is known how many texts a limit leaves room for:
 a search finds exactly these. Each place is fetched and done all the same, and standard error says once that the crawl reached the
-limit. Two further folders have one long text each. The page of one is large, and the page of the other has the most words of a
-page that isn't.
+limit. Three further folders have one long text each. The page of one is large, the page of another has the most words of a page
+that isn't, and the third text is one word again and again.
 
 Refusals: the program crawls 150 texts of its own, while a library that is loaded before it (preloads/refusals.c) refuses every
 allocation of at least so many bytes, or one of these. Merging 64 pages takes the largest ones, of over 100,000 bytes: without
@@ -20,6 +20,7 @@ to make pages, some 50 MiB, so it fails with fewer than some 200 texts. A search
 
 The last lines tell what large texts took, in MiB a text, and 'crawl memory: N passed, M failed'.
 """
+import collections
 import contextlib
 import itertools
 import random
@@ -36,6 +37,8 @@ NAMES = [f"text{number:02}.txt" for number in range(TEXTS)]
 REACHED = b"hole: the crawl reached --crawl-memory: it leaves pages out\n"
 # The words of a large page have more bytes than this, and words of 65,536 bytes have longer ends.
 LARGE, LONG = 131_072, 65_536
+# How often a word occurs that has several postings.
+FREQUENT = 600
 UNITS = {"": 1, "K": 1 << 10, "M": 1 << 20, "G": 1 << 30}
 
 # Crawls with refusals.
@@ -84,9 +87,13 @@ def long_words(size):
 
 
 def size_of(words, title, links=()):
-    """How many bytes a page counts for: the formula of docs/SPECIFICATION.md. No word occurs 256 times."""
-    own, count = sum(map(len, words)), len(words)
-    of_words = own + 5 * count if own > LARGE else 2 * own + (21 if own >= LONG else 17) * count
+    """How many bytes a page counts for: the formula of docs/SPECIFICATION.md."""
+    counts = sorted(collections.Counter(words).items())
+    own, count = sum(len(word) for word, _ in counts), len(counts)
+    to_last = max((number for number, (_, times) in enumerate(counts, 1) if times >= 256), default=0)
+    postings = sum(-(-times // 255) for _, times in counts)
+    in_index = 2 * own + (18 if own >= LONG else 14) * count + 4 * to_last + 3 * postings
+    of_words = own + 5 * count + 2 * to_last if own > LARGE else in_index
     return 512 + len(title) + of_words + sum(176 + 2 * (len(HOST) + len(link)) for link in links)
 
 
@@ -119,6 +126,10 @@ def check_limit(test, texts, limit, found, told, *words):
         sizes = f"known {known} waiting 0 out 0 done {known} dropped 0\n"
         test.expect(f"{limit}: output and status", (output.decode(), status), (sizes, 0))
         test.expect(f"{limit}: told", error.count(REACHED), told)
+        if "--progress" in words:
+            left_out = re.findall(rb"hole: failed: gopher://\S+: memory\n", error)
+            test.expect(f"{limit}: places whose page is left out are named", len(set(left_out)), len(texts) - found)
+            test.expect(f"{limit}: they are counted", f"{sizes[:-1]} failed {len(texts) - found}\n".encode() in error, True)
 
 
 def check_limits(test):
@@ -138,9 +149,9 @@ def check_limits(test):
 
 
 def check_long_texts(test):
-    """Long texts, whose words have so many bytes, and a short one count for their sizes."""
-    for size in (LARGE, LARGE + 1):
-        texts = {"long.txt": long_words(size), "short.txt": words_of(0)}
+    """A long text and a short one count for their sizes."""
+    for words in (long_words(LARGE), long_words(LARGE + 1), ["common"] * FREQUENT):
+        texts = {"long.txt": words, "short.txt": words_of(0)}
         most = size_of_menu(texts) + sum(map(size_of_text, texts.values()))
         check_limit(test, texts, most, 2, 0)
         check_limit(test, texts, most - 1, 1, 1)

@@ -85,6 +85,14 @@ def check_crawl(test):
             test.expect("a beginning of all words but one", searched(server, b"p* not p0"), without)
 
 
+def read_to_end(server):
+    """The lines of the error stream up to the one that says that the crawl is over."""
+    told = [""]
+    while not told[-1].startswith("hole: crawl finished: ") and (line := server.process.stderr.readline()):
+        told.append(line.decode().rstrip("\n"))
+    return told[1:]
+
+
 def check_limits(test):
     """Crawls a menu with a text, the longest that is found, texts whose fetches fail, one of them only once, and one that a rule
     denies."""
@@ -97,7 +105,7 @@ def check_limits(test):
         replies[b""] = host.menu(b"0", (b"/text", b"/fails", b"/late", b"/long", b"/longest", b"/private/text", b"/text"))
         denied = f'[[deny]]\nhost = "{HOST}"\nport = {host.port}\nprefix = "/private"\n'
         with crawling(test, seeded(host.port, f"tries = {TRIES}") + denied, "--progress", "--requests", 1) as server:
-            until_true(lambda: min(map(host.asked.count, (b"/fails", b"/long"))) >= TRIES)
+            told = read_to_end(server)
             time.sleep(SECONDS_AFTER)
             wanted = {b"": 1, b"/text": 1, b"/fails": TRIES, b"/late": 2, b"/long": TRIES, b"/longest": 1}
             test.expect("what a host is asked for, and how often", dict(collections.Counter(host.asked)), wanted)
@@ -107,7 +115,7 @@ def check_limits(test):
         test.expect("the end of a crawl with failed places", (output, status), (sizes + b"\n", 0))
         failed = (("fails", "read: connection reset"), ("long", "too long"))
         lines = [f"hole: failed: gopher://{HOST}:{host.port}/0/{name}: {why}" for name, why in failed]
-        told = error.decode().splitlines()
+        told += error.decode().splitlines()
         test.expect("the places that failed for good", sorted(told[:-2]), lines)
         ended = [sizes.decode() + " failed 2", "hole: crawl finished: 4 found, 2 failed, 0 dropped in S s"]
         test.expect("how many they are", without_seconds(told[-2:]), ended)
@@ -124,7 +132,8 @@ def check_list(test):
             with crawling(test, seeded(host.port), "--list-found", path, "--requests", 0) as server:
                 output, error, status = server.end()
             test.expect(f"the end of a crawl with the list {path.name}", (output[:8], error.decode(), status), (b"known 2 ", why, 0))
-    # A page takes 512 bytes and its title, 17 bytes and twice its bytes for a word, and for a link 176 bytes and twice its parts.
+    # A page takes 512 bytes and its title, 17 bytes and twice its bytes for a word that it has once, and for a link 176 bytes and
+    # twice its parts.
     menu, text = 512 + 1 + (17 + 2) + 176 + 2 * (len("/text") + len(HOST)), 512 + 8 + (17 + 6) + (17 + 8)
     where = f"gopher://{HOST}:{host.port}"
     test.expect("the list of found places", old.read_text(), f"{where}/1\t{menu}\t0\n{where}/0/text\t{text}\tThe moon\n")

@@ -3,11 +3,14 @@
 
     tests/limits.py [PROGRAM]
 
-A contract can't tell a call that gives up too early from one that has no memory. So each limit that docs/SPECIFICATION.md names,
-and each size that follows from one, is run twice: as it is, which works, and with one more, which is refused by its number or
-leaves out what the document says. LIMITS says for each which test does it; that the test has what it says is checked here, too.
+A contract can't tell a call that gives up too early from one that has no memory. So each limit that docs/SPECIFICATION.md and the
+manuals name, and each size that follows from one, is run twice: as it is, which works, and with one more, which is refused by its
+number or leaves out what the document says. A few numbers that no call refuses are those of an exact clause. LIMITS says for each
+which test does it; that the test has what it says is checked here, too. At most 1,024 hosts are noted, but at most 256 rules allow
+hosts, so no crawl comes to that.
 The last line is 'limits: N passed, M failed'.
 """
+import re
 import time
 
 from running.server import ROOT, TEXTS_OF_A_MENU, Host, crawling, run_test, searched, seeded, until_true
@@ -19,7 +22,8 @@ TEXTS = 65_026
 HITS = 50
 SECONDS_BEFORE = 1.0
 
-# Each limit: the words of the document, how it answers one more, the file of the test, and what stands there.
+DOCUMENTS = ("docs/SPECIFICATION.md", "man/hole.1", "man/hole.toml.5")
+# Each limit: the words of the documents, how one more is answered, the file of the test or of an exact clause, and what stands there.
 LIMITS = (
     ("The selector has at most 255 bytes", "2", "crates/test_library/src/menus.rt", "&[b's'; 256], Err(2)"),
     ("7 if the line has over 1,024 bytes", "7", "crates/test_library/src/menus.rt", "&[b's'; 1_025], Err(7)"),
@@ -42,6 +46,38 @@ LIMITS = (
     ("With `--aliases FILE`", "35", "tests/aliases.py", "MOST_BYTES"),
     ("For the first 1,000 places that failed", "counted", "tests/crawling.py", "MOST_PRINTED"),
     ("the first 50", "left out", "tests/crawling.py", "MOST_HITS"),
+    ("The host has 1 to 255 bytes", "3", "tests/models/worked.py", 'b"h" * 256'),
+    ("systemd hands it (`LISTEN_PID`, `LISTEN_FDS`; at most 64)", "not served", "tests/listen.py", "MOST_INHERITED + 1"),
+    ("otherwise at all addresses of its host", "not served", "tests/listen.py", "MOST_OF_HOST + 1"),
+    ("May be repeated, up to 1,024 times", "2", "tests/listen.py", "MOST_NAMED"),
+    ("takes one from the quota (the N of `--requests`", "refused", "tests/listen.py", "of the requests after which a server ends"),
+    ("connections (0 to 1000000)", "2", "tests/program.py", '"--requests", 1_000_000'),
+    ("at once (1 to 1000000;", "2", "tests/program.py", '"--clients-per-address", 1_000_000'),
+    ("(0 to 86400; 60 if absent)", "2", "tests/program.py", '"--fetch-timeout", 86_400'),
+    ("(0 to 3600000; 0 if absent)", "2", "tests/program.py", '"--fetch-pause", 3_600_000'),
+    ("is a number up to 2^64", "2", "tests/program.py", '"--crawl-memory", 2**64 - 1'),
+    ("the N of `--clients-per-address`", "closed", "tests/attack.py", "an address that may hold three"),
+    ("or a quarter of all places if absent", "closed", "tests/attack.py", "PLACES - PLACES // 4"),
+    ("or as many as the limit of open files less a reserve", "closed", "tests/attack.py", "while there is room"),
+    ("All threads together have at most 16,384 places", "closed", "crates/gopher_server/specs/Places.antt", "16_384"),
+    ("at most 65,536 bytes of a reply for a client", "waits", "tests/listen.py", "[4 * 65_536] * 4"),
+    ("it queues at most 262,144", "waits", "tests/listen.py", "[2 * 262_144] * 16"),
+    ("but at least 8,192", "waits", "crates/gopher_server/wrong-bodies/send_buffer.edit", "send_buffer_of(16_384) == 8_192"),
+    ("for 16 seconds at most", "closed", "tests/attack.py", "LINGERS"),
+    ("After 64 in a row", "waits", "crates/gopher_server/wrong-bodies/decisions/accepting.edit", "failure_of(103, false, 63)"),
+    ("or when it has 65,536 bytes", "handed on", "crates/gopher_server/wrong-bodies/logging/batch.edit", "written.len() >= 65_536"),
+    ("At most 64 such batches wait", "dropped", "tests/log.py", "MOST_FOR_PIPE"),
+    ("over 131,072 bytes together", "large", "tests/crawl_memory.py", "long_words(LARGE), long_words(LARGE + 1)"),
+    ("the whole fetch after 10 T seconds", "1, 2, 3", "tests/hosts.py", "TIMES_IN_ALL * timeout"),
+    ("After three time-outs in a row", "given up", "tests/hosts.py", "MOST_TIMEOUTS"),
+    ("a path has over 254 bytes", "at least", "tests/check.py", "files that are too large, and a path that is too long"),
+    ("At most 20 of menus", "counted", "tests/survey.py", "MOST_SHOWN"),
+    ("An array of at most 256 tables", "33", "tests/check.py", "256 seeds, and as many rules of both kinds"),
+    ("An integer, 1 to 65535; 70 if absent", "33", "tests/check.py", "port = 65536"),
+    ("An integer, 1 to 65536; 4096 if absent", "33", "tests/check.py", "places = 65537"),
+    ("An integer, 1 to 16; 4 if absent", "33", "tests/check.py", "workers = 17"),
+    ("An integer, 1 to 8; 2 if absent", "33", "tests/check.py", "threads = 9"),
+    ("An integer, 1 to 5; 1 if absent", "33", "tests/check.py", "tries = 6"),
 )
 # Sizes that follow from a limit, what their tests are called, and the file.
 SIZES = (
@@ -52,16 +88,20 @@ SIZES = (
     ("a text of 520,000 words", "tests/drawn/sizes.py", "crawl_of_a_long_text"),
     ("a text of 210,000 different words", "tests/drawn/sizes.py", "crawl_of_a_large_page"),
     ("a menu of 349,000 lines", "tests/drawn/sizes.py", "crawl_of_many_lines"),
-    ("a word 300 times in over 50 pages", "tests/drawn/sizes.py", "crawl_of_frequent_words"),
+    ("a word 300 times in 1,400 pages", "tests/drawn/sizes.py", '[b"l " * 300] * 1400'),
+    ("the places of a word in over 2,000 pages", "tests/drawn/sizes.py", 'number < 6000 or word != b"m"'),
+    ("a file in the last of 4,095 folders", "tests/check.py", "the most folders, and a file in the last"),
+    ("a reserved name behind the most files", "tests/check.py", "the most files and one with a reserved name"),
+    ("a text of exactly 1,048,576 bytes whose last line has no end", "tests/crawling.py", "LONGEST = b"),
     ("a word in 16,385 pages", "tests/drawn/sizes.py", "16385"),
 )
 
 
 def check_table(test):
-    """The document has the words of each limit, and the test what the table says of it."""
-    words = " ".join((ROOT / "docs/SPECIFICATION.md").read_text().split())
+    """The documents have the words of each limit, and the test what the table says of it."""
+    words = " ".join(word for file in DOCUMENTS for word in (ROOT / file).read_text().split())
     for limit, _, file, shown in LIMITS:
-        test.expect(f"the document has {limit!r}", limit in words, True)
+        test.expect(f"the documents have {limit!r}", limit in words, True)
         test.expect(f"{file} has {shown!r}", shown in (ROOT / file).read_text(), True)
     for size, file, shown in SIZES:
         test.expect(f"{size}: {file} has {shown!r}", shown in (ROOT / file).read_text(), True)
@@ -87,6 +127,9 @@ def check_most_places(test):
             test.expect("texts of it that no search finds", lost, [])
             test.expect("the one text more", searched(server, b"p%d" % TEXTS), [])
             test.expect("a word of all texts", searched(server, b"moon"), sorted(names[:TEXTS])[:HITS])
+            ended = next((line for line in server.process.stderr if line.startswith(b"hole: crawl ")), b"")
+            wanted = b"hole: crawl finished: %d found, 0 failed, 1 dropped in S s\n" % PLACES
+            test.expect("how the crawl of the most places ended", re.sub(rb"in \d+ s", b"in S s", ended), wanted)
             server.terminate()
 
 

@@ -6,6 +6,7 @@ handed, and check them.
 
 The last line is 'listen: N passed, M failed'. It takes some seconds.
 """
+import contextlib
 import pathlib
 import re
 import socket
@@ -19,9 +20,14 @@ OTHER, ABSENT, REPLY = "127.0.0.2", "192.0.2.1", b"hello\r\n.\r\n"
 # How many files a server keeps for what isn't a connection, and how many connections it may hold then.
 FILES_LEFT, PLACES = 64, 40
 NOT_LISTENING = b"hole: 81\n"
-# Twice the larger queue of a client, as the system counts it.
-MOST_QUEUED = 2 * 262_144
+SECONDS_FOR_SLOW = 3.0
+# What may be queued for clients who ask one thread for a long reply, the larger queues first. The system has twice as much room as
+# it is told, and some more for what it sends at once.
+MOST_QUEUED = [2 * 262_144] * 16 + [4 * 65_536] * 4
 IPV6, LOOPBACK = pathlib.Path("/proc/net/if_inet6"), f"{1:032}"
+# A host that has the addresses that a library gives it, and how many of them are served at most; how many addresses may be named,
+# and how many sockets that are handed over are served.
+NAME, MOST_OF_HOST, MOST_NAMED, MOST_INHERITED = "many.invalid", 32, 1_024, 64
 NO_SEEDS = "warning: searches find nothing, because the settings have no [[seeds]]\n"
 
 
@@ -30,7 +36,7 @@ def listening(test, root, *words, hosts=(HOST,), **how):
     with test.serving(root, "--requests", len(hosts), *words, **how) as server:
         for each in hosts:
             host, port = each if isinstance(each, tuple) else (each, server.port)
-            test.expect(f"{words}: a text from {host}", ask(port, b"/a.txt\r\n", host), REPLY)
+            test.expect(f"{words}: a text from {host}", ask_whole(port, b"/a.txt\r\n", host), REPLY)
         output, error, status = server.end()
         test.expect(f"{words}: as many connections end it", (output[:6], status), (b"known ", 0))
         return server.port, error
@@ -42,6 +48,16 @@ def fails_to_listen(test, root, cause, *words, **how):
     output, error, status = test.ended(root, "--progress", *words, **how)
     told, last = error.splitlines(True)[0].decode(), error.splitlines(True)[1:]
     test.expect(f"{cause}, with --progress", (output, cause in told, last, status), (b"", True, [NOT_LISTENING], 1))
+
+
+def addresses(count):
+    """So many addresses of this machine."""
+    return [f"127.1.{number // 250}.{number % 250 + 1}" for number in range(count)]
+
+
+def having(test, *found):
+    """What starts a program for which the host `NAME` has these addresses."""
+    return test.preload("names", NAMED=NAME, ADDRESSES=",".join(found))
 
 
 def check_named(test):
@@ -76,20 +92,49 @@ def handing_over(*sockets, receiver="os.getpid()"):
 
 
 def check_addresses(test):
-    """Each address of a host is served, and one that can be bound is enough; 81 if none can be."""
+    """Each address of a host is served, and one that can be bound is enough; 81 if none can be. Each that can't be is told."""
     root = test.site(FILES)
     found = sorted({info[4][0] for info in socket.getaddrinfo("localhost", None, type=socket.SOCK_STREAM)})
     listening(test, root, host="localhost", hosts=found)
+    listening(test, root, host=NAME, hosts=(HOST, OTHER), before=having(test, HOST, OTHER))
     fails_to_listen(test, root, ABSENT, "--listen", ABSENT)
+    port, error = listening(test, root, "--progress", "--listen", HOST, "--listen", ABSENT)
+    test.expect("the second of two addresses is told", f"hole: can't listen at {ABSENT}:{port}: ".encode() in error, True)
     with socket.create_server((HOST, 0)) as taken:
         port = taken.getsockname()[1]
         fails_to_listen(test, root, f"hole: can't listen at {HOST}:{port}: ", port=port)
-        if len(found) < 2:
-            return print(f"listen: localhost has one address here: {found}")
         for words in (), ("--progress",):
-            _, error = listening(test, root, *words, host="localhost", port=port, hosts=("::1",))
-            told = f"hole: can't listen at 127.0.0.1:{port}: ".encode() in error
+            how = {"port": port, "hosts": (OTHER,), "before": having(test, HOST, OTHER)}
+            _, error = listening(test, root, *words, host=NAME, **how)
+            told = f"hole: can't listen at {HOST}:{port}: ".encode() in error
             test.expect(f"whether the other is told with {words}", told, bool(words))
+
+
+def check_most(test):
+    """The most addresses of a host, addresses that are named, sockets that are handed over, and requests are served; no more are."""
+    root, asked = test.site(FILES), b"/a.txt\r\n"
+    found = addresses(MOST_OF_HOST + 1)
+    with test.serving(root, host=NAME, before=having(test, *found)) as server:
+        replies = [ask_whole(server.port, asked, host) for host in found]
+        test.expect("of the addresses of a host", replies, [REPLY] * MOST_OF_HOST + [b"ConnectionRefusedError"])
+    named = addresses(MOST_NAMED)
+    words = [word for address in named for word in ("--listen", address)]
+    with test.serving(root, *words, before=with_few_files(2 * MOST_NAMED)) as server:
+        replies = [ask_whole(server.port, asked, host) for host in named]
+        test.expect("of the most addresses that are named", replies, [REPLY] * MOST_NAMED)
+    with contextlib.ExitStack() as ends:
+        sockets = [ends.enter_context(socket.create_server((HOST, 0))) for _ in range(MOST_INHERITED + 1)]
+        *ports, last = [each.getsockname()[1] for each in sockets]
+        with test.serving(root, **handing_over(*sockets)):
+            replies = [ask_whole(port, asked) for port in ports]
+            test.expect("of the sockets that are handed over", replies, [REPLY] * MOST_INHERITED)
+            with connect(last, wait=0.5) as client:
+                client.sendall(asked)
+                test.expect("whether one more of them is served", ends_in_time(client), False)
+    with test.serving(root, "--requests", 2) as server, connect(server.port) as held:
+        held.sendall(b"/a")
+        replies = [ask_whole(server.port, asked) for _ in range(2)]
+        test.expect("of the requests after which a server ends", replies, [REPLY, b"ConnectionRefusedError"])
 
 
 def check_activation(test):
@@ -118,6 +163,15 @@ def check_other_descriptors(test):
         fails_to_listen(test, root, "hole: can't listen at descriptor 4: not a TCP socket", **handing_over(first, other))
 
 
+def ends_in_time(client):
+    """Whether the connection of a client comes to its end before its time-out."""
+    try:
+        read_all(client)
+        return True
+    except TimeoutError:
+        return False
+
+
 def queued_for(client):
     """How many bytes the system queues for a client that is connected from this machine."""
     ends = [client.getpeername()[1], client.getsockname()[1]]
@@ -131,17 +185,20 @@ def check_blocking(test):
     root = test.site({**FILES, "large": bytes(8 << 20)})
     with socket.create_server((HOST, 0)) as first:
         port = first.getsockname()[1]
-        with test.serving(root, **handing_over(first)):
-            slow = connect(port)
+        with test.serving(root, more="threads = 1\n", **handing_over(first)), connect(port, wait=SECONDS_FOR_SLOW) as slow:
             slow.sendall(b"/a")
             for _ in range(8):
-                test.expect("a request beside a slow one", ask(port, b"/a.txt\r\n"), REPLY)
+                test.expect("a request beside a slow one", ask_whole(port, b"/a.txt\r\n"), REPLY)
             slow.sendall(b".txt\r\n")
-            test.expect("the slow one", read_all(slow), REPLY)
-            with connect(port) as deaf:
-                deaf.sendall(b"/large\r\n")
+            test.expect("whether the slow one is answered", ends_in_time(slow), True)
+            with contextlib.ExitStack() as ends:
+                deaf = [ends.enter_context(connect(port)) for _ in MOST_QUEUED]
+                for client in deaf:
+                    client.sendall(b"/large\r\n")
                 time.sleep(1)
-                test.expect("what is queued for a client that doesn't read", 0 < queued_for(deaf) <= MOST_QUEUED, True)
+                queued = sorted(map(queued_for, deaf), reverse=True)
+                are_limited = all(0 < bytes_of <= most for bytes_of, most in zip(queued, MOST_QUEUED))
+                test.expect(f"what is queued for clients that don't read: {queued}", are_limited, True)
 
 
 def check_lost_thread(test):
@@ -171,17 +228,17 @@ class Checks:
         self.test, self.root, self.port = test, test.site(FILES), free_port()
         self.settings = test.folder / "check.toml"
 
-    def lines(self, host, *words):
+    def lines(self, host, *words, before=()):
         """What a check of a host prints of addresses, its line on standard error and its status."""
         self.settings.write_text(f'host = "{host}"\nport = {self.port}\nroot = "{self.root}"\n')
-        output, error, status = self.test.run("check", self.settings, *words)
+        output, error, status = self.test.run("check", self.settings, *words, before=before)
         counts, warning, rest = output.decode().partition(NO_SEEDS)
         self.test.expect(f"a check of {host} {words} without seeds", (counts[-9:], bool(warning)), ("bytes: 6\n", True))
         return rest, error, status
 
-    def expect(self, words, pattern, is_sound):
+    def expect(self, words, pattern, is_sound, before=()):
         """Expects such lines, whose addresses of this host stand as HERE, and then the report of 81 unless it is sound."""
-        lines, error, status = self.lines(*words)
+        lines, error, status = self.lines(*words, before=before)
         key = "" if "--listen" in words[:-1] else "key: host\n"
         fault = f"fault: 81\npath: {self.settings}\n{key}cause: .*\nremedy: .*\n"
         pattern = pattern.replace("HERE", f"{HOST}:{self.port}") + ("sound\n" if is_sound else fault)
@@ -192,9 +249,10 @@ class Checks:
 
 def check_checks(test):
     """`hole check` resolves the host, or binds addresses, and prints what the system says of each. With --listen ADDRESS it
-    doesn't resolve the host, and an address in use doesn't fail it."""
+    doesn't resolve the host, and an address that is in use or needs a permission doesn't fail it."""
     checks, nowhere = Checks(test), "no.such.host.invalid"
-    in_use, of_another = "Address already in use.*\n", "Cannot assign.*\n"
+    in_use, of_another, denied = "Address already in use.*\n", "Cannot assign.*\n", "Permission denied.*\n"
+    without = test.preload("refusing", REFUSED_BINDS=1)
     rows = (
         ((HOST,), "resolves to: HERE\n", True),
         ((HOST, "--listen"), "resolves to: HERE\ncan listen at: HERE\n", True),
@@ -207,6 +265,8 @@ def check_checks(test):
     )
     for row in rows:
         checks.expect(*row)
+    checks.expect((nowhere, "--listen", HOST), f"can't listen at: HERE: {denied}", True, without)
+    checks.expect((HOST, "--listen"), f"resolves to: HERE\ncan't listen at: HERE: {denied}", False, without)
     with socket.create_server((HOST, checks.port)):
         checks.expect((HOST, "--listen"), f"resolves to: HERE\ncan't listen at: HERE: {in_use}", False)
         checks.expect((HOST,), "resolves to: HERE\n", True)
@@ -217,4 +277,4 @@ def check_checks(test):
 
 if __name__ == "__main__":
     run_test("listen", __doc__, check_named, check_addresses, check_activation, check_other_descriptors, check_blocking,
-             check_lost_thread, check_checks)
+             check_lost_thread, check_most, check_checks)

@@ -13,25 +13,36 @@ import datetime
 import os
 import pathlib
 import re
+import select
 import signal
 import socket
 import time
 from concurrent.futures import ThreadPoolExecutor
 
 from running.server import (
-    HOST, SIZES, WAIT, ask, ask_all, connect, is_open, read_all, reset, run_test, seeded, until_true, with_few_files,
+    HOST, SIZES, WAIT, Host, ask, ask_all, connect, found_at_last, free_port, is_open, read_all, reset, run_test, seeded, until_true,
+    with_few_files,
 )
 
 LARGE = bytes(range(256)) * 32_768
 LINE = re.compile(rb"(\d{4})-(\d\d)-(\d\d)T(\d\d):(\d\d):(\d\d)\.(\d{6})Z\t([^\t]*)\t([^\t]*)\t([^\t]*)\t(\d+)\t(\d+)")
 CANT = b"hole: the log can't be written: "
 FAILED = b" failed %d\n"
+TRIES = 20
+CLOSED = b"hole: connections closed for room: "
+SILENT = 100
+NO_ROOM = b"hole: messages that had no room: "
+REACHED = b"hole: the crawl reached --crawl-memory: it leaves pages out\n"
 MOST_SECONDS_FOR_LATE = 5.0
 LINES_FOR_PIPE = 1_700  # of some 4,100 bytes each: more than the pipe and all batches hold
 KEPT_FOR_PIPE = 200  # more than one batch, the threads and the pipe hold, less than 64 batches that were handed on early
+MOST_FOR_PIPE = 1_160  # of 64 batches, another that is written, those of both threads, 17 lines each, the pipe, and the last ones
 LAST_LINES = 2  # one for each thread, so that none ends while nobody reads
 SECONDS_UNREAD = 2.5  # longer than the writer tries on once no lines come
 STEADY = 15
+LATE = 0.08  # seconds
+SECONDS_BETWEEN_SIZES = 11.0
+MOST_SECONDS_OF_WORK = 5.0  # of a crawl of two pages
 
 # Each byte but TAB and LF.
 ODD = bytes(byte for byte in range(256) if byte not in (9, 10))
@@ -112,19 +123,24 @@ def check_fields(logs):
 
 def check_steady(logs):
     """Lines are written while requests go on, and the microseconds of one count from the accept."""
-    path, waits = logs.folder / "steady", [1.1, *[0.1] * (STEADY - 2)]
+    path, waits, times = logs.folder / "steady", [1.1, *[0.1] * (STEADY - 2)], []
     with logs.logging(path, STEADY, more="threads = 1\n") as server:
         for wait in waits:
+            began = time.monotonic()
             with connect(server.port) as client:
                 time.sleep(wait)
                 client.sendall(b"/a.txt\r\n")
                 read_all(client)
+            times.append(time.monotonic() - began)
         early = len(logged(path))
         ask(server.port, b"/a.txt\r\n")
     found = logged(path)
     logs.expect(f"{early} of {len(found)} lines are written meanwhile", (early >= STEADY // 2, len(found)), (True, STEADY))
     short = [request.micros for request, wait in zip(found, waits) if request.micros < wait * 0.5e6]
     logs.expect("the microseconds of a client that waits before its line", short, [])
+    # the client may be at its end before the server has read its clock
+    long = [request.micros for request, seconds in zip(found, times) if request.micros > (seconds + LATE) * 1e6]
+    logs.expect(f"microseconds of more than the client's own time: {long}", len(long) <= 1, True)
 
 
 def check_idle(logs):
@@ -145,6 +161,12 @@ def switches(number):
         for line in status.read_text().splitlines()
         if line.startswith("voluntary_ctxt_switches:")
     )
+
+
+def seconds_of_work(number):
+    """For how many seconds a process has had a processor so far."""
+    times = pathlib.Path(f"/proc/{number}/stat").read_text().rpartition(")")[2].split()[11:13]
+    return sum(map(int, times)) / os.sysconf("SC_CLK_TCK")
 
 
 def expect_cut(logs, path):
@@ -181,6 +203,13 @@ def check_empty_writes(logs):
         ask(server.port, b"/a.txt\r\n")
 
 
+def is_reset(client):
+    """Whether the server has reset the connection of a client. Nothing is read."""
+    errors = select.poll()
+    errors.register(client, 0)
+    return bool(errors.poll(0))
+
+
 def check_closed(logs):
     """A connection that is closed because all places are taken has its line."""
     path = logs.folder / "closed"
@@ -188,15 +217,20 @@ def check_closed(logs):
         deaf.sendall(b"/large.png\r\n")
         # the others come once the server has written all that the system takes, so that this one is idle longest
         time.sleep(1.0)
-        # they have asked too: one that has asked nothing would go first
-        with connect(server.port) as second:
+        # They have asked too: one that has asked nothing goes first, also one that is accepted before its line comes. So the third
+        # one is tried again until its line is there in time.
+        with connect(server.port) as second, contextlib.ExitStack() as ends:
             second.sendall(b"/large.png\r\n")
             time.sleep(0.5)
-            with connect(server.port) as third:
+            for _ in range(TRIES):
+                third = ends.enter_context(connect(server.port))
                 third.sendall(b"/large.png\r\n")
-                time.sleep(1.3)
-                logs.expect("lines while the others wait", [request.selector for request in logged(path)], [b"/large.png"])
-                logs.expect("clients that wait", [is_open(deaf), is_open(second), is_open(third)], [False, True, True])
+                until_true(lambda: is_reset(third) or is_reset(deaf))
+                if not is_reset(third):
+                    break
+            time.sleep(1.0)
+            logs.expect("lines while the others wait", [request.selector for request in logged(path)], [b"/large.png"])
+            logs.expect("clients that are reset", [is_reset(deaf), is_reset(second), is_reset(third)], [True, False, False])
 
 
 def check_silence(logs):
@@ -229,6 +263,19 @@ def check_reset(logs):
     expect_cut(logs, path)
 
 
+def check_reset_at_once(logs):
+    """A client that is gone before anything is written to it has a line."""
+    path = logs.folder / "gone"
+    with logs.logging(path, 1, more="threads = 1\n") as server:
+        # the line and the reset are there before the server accepts
+        server.process.send_signal(signal.SIGSTOP)
+        client = connect(server.port)
+        client.sendall(b"/large.png\r\n")
+        reset(client)
+        server.process.send_signal(signal.SIGCONT)
+    logs.expect("the line of a client that was gone", [request[2:5] for request in logged(path)], [(b"/large.png", b"", 0)])
+
+
 def check_threads(logs):
     """Lines of several threads are whole, and none is missing."""
     path = logs.folder / "threads"
@@ -238,6 +285,20 @@ def check_threads(logs):
     found = sorted(int(request.search) for request in logged(path))
     logs.expect("all lines of eight threads", found, list(range(len(lines))))
     logs.expect("all replies of eight threads", set(replies), {b"hello\r\n.\r\n"})
+
+
+def check_late(logs):
+    """A log whose folder comes later has the lines of all requests, and a failure is told once."""
+    folder, count = logs.folder / "later", 20
+    with logs.serving("--log", folder / "log", "--requests", count) as server:
+        replies = [ask(server.port, b"/a.txt\r\n") for _ in range(count - 1)]
+        time.sleep(0.6)
+        folder.mkdir()
+        until_true((folder / "log").exists, MOST_SECONDS_FOR_LATE)
+        replies.append(ask(server.port, b"/a.txt\r\n"))
+        expect_told(logs, "a log whose folder comes later", server.end())
+    lines = [request.selector for request in logged(folder / "log")] if (folder / "log").exists() else []
+    logs.expect("a log whose folder comes later: its lines", lines, [b"/a.txt"] * len(replies))
 
 
 def expect_told(logs, what, ended):
@@ -304,7 +365,8 @@ def check_unread(logs):
         requests, dropped = content.result(WAIT)
     logs.expect("a pipe: replies", (len(replies), len(set(replies))), (count, 1))
     logs.expect("a pipe: whole lines", {request[2] for request in requests}, {escaped(pipe.LINE.strip())})
-    logs.expect("a pipe: the lines of many batches are kept", len(requests) >= KEPT_FOR_PIPE, True)
+    is_kept = KEPT_FOR_PIPE <= len(requests) <= MOST_FOR_PIPE
+    logs.expect(f"a pipe: the lines of many batches are kept: {len(requests)}", is_kept, True)
     logs.expect("a pipe: lines and dropped ones", (len(requests) + sum(dropped), sum(dropped) > 0), (count, True))
 
 
@@ -327,38 +389,97 @@ def check_never_read(logs):
 
 
 def check_progress(logs):
-    """The sizes of the crawl are printed every ten seconds and at its end, and a place that is out for longer than that."""
+    """The sizes of the crawl are printed after ten seconds, and again at its end, since they change only then. A place that is out
+    for longer than that is named, and so is the limit of memory that the crawl has reached."""
     with socket.create_server((HOST, 0)) as deaf:
         port = deaf.getsockname()[1]
-        with logs.serving("--progress", "--requests", 0, more=seeded(port)) as server:
+        # one fetch of the server itself, whose page is left out
+        words, own = ("--progress", "--requests", 1, "--crawl-memory", 1), seeded() + "".join(seeded(port).splitlines(True)[1:])
+        with logs.serving(*words, more=own) as server:
             fetch, _ = deaf.accept()
             began = time.monotonic()
             # a place that is out for as long as that is named too
-            first = [re.sub(rb" 1\d s ", b" S s ", server.process.stderr.readline()) for _ in range(2)]
+            first = [re.sub(rb" 1\d s ", b" S s ", server.process.stderr.readline()) for _ in range(4)]
             seconds = time.monotonic() - began
+            time.sleep(SECONDS_BETWEEN_SIZES)
+            worked = seconds_of_work(server.process.pid)
             deaf.close()
             fetch.close()
             output, rest, status = server.end()
     slow = f"hole: slow: S s gopher://{HOST}:{port}/1\n".encode()
-    logs.expect("the sizes of a crawl that goes on", sorted(first), [slow, b"known 1 waiting 0 out 1 done 0 dropped 0" + FAILED % 0])
+    left_out = f"hole: failed: gopher://{HOST}:{server.port}/1: memory\n".encode()
+    wanted = [left_out, slow, REACHED, b"known 2 waiting 0 out 1 done 1 dropped 0" + FAILED % 1]
+    logs.expect("the sizes of a crawl that goes on", sorted(first), sorted(wanted))
     logs.expect(f"they came after {seconds:.1f} seconds", 8 < seconds < 13, True)
+    logs.expect(f"idle workers sleep, of {worked} seconds of work", worked < MOST_SECONDS_OF_WORK, True)
     failed = f"hole: failed: gopher://{HOST}:{port}/1: read: connection reset\n".encode()
-    ended = b"hole: crawl finished: 0 found, 1 failed, 0 dropped in S s\n"
-    rest = re.sub(rb" in 1\d s\n$", b" in S s\n", rest)
-    logs.expect("the sizes at its end", (rest, status), (failed + output[:-1] + FAILED % 1 + ended, 0))
+    ended = b"hole: crawl finished: 0 found, 2 failed, 0 dropped in S s\n"
+    rest = re.sub(rb" in 2\d s\n$", b" in S s\n", rest)
+    logs.expect("the sizes at its end", (rest, status), (failed + output[:-1] + FAILED % 2 + ended, 0))
     logs.expect("they are those of its end", b" waiting 0 out 0 " in output, True)
+
+
+def check_unread_messages(logs):
+    """Messages that nobody reads hold up neither the crawl nor the end; read later, those that had no room are counted."""
+    absent, count, found = free_port(), 1_100, []
+    with Host(lambda line: {b"/t": b"moon\n.\n"}.get(line.strip(), menu)) as host:
+        gone = b"".join(b"0\t/%d%s\t%s\t%d\r\n" % (number, b"\xff" * 240, HOST.encode(), absent) for number in range(count))
+        menu = gone + host.menu(b"0", [b"/t"])
+        settings = seeded(host.port, f"places = {2 * count}", allow=[absent])
+        with logs.serving("--progress", more=settings) as server:
+            found = found_at_last(server, b"moon", [b"/t"])
+            time.sleep(1)
+            printed = missing = 0
+            # beside the failed places: how many aren't named, the sizes, and the end
+            while printed + missing < 1_000 + 3 and (line := server.process.stderr.readline()):
+                printed, missing = (printed, missing + int(line[len(NO_ROOM):])) if line.startswith(NO_ROOM) else (printed + 1, missing)
+            server.terminate()
+        with logs.serving("--progress", "--requests", 0, more=settings) as server:
+            until_true(lambda: server.process.poll() is not None, WAIT)
+            status = server.process.poll()
+    logs.expect("a crawl whose messages nobody reads goes on", found, [b"/t"])
+    logs.expect("messages that were printed or counted", (printed + missing, printed > 200, missing > 0), (1_000 + 3, True, True))
+    logs.expect("a server whose messages nobody reads ends", status, 0)
+
+
+def check_closed_for_room(logs):
+    """That connections are closed for others is said at once, and no more in the next seconds."""
+    how = {"more": "threads = 1\n", "before": with_few_files(SILENT + 64)}
+    with logs.serving("--progress", "--clients-per-address", 1_000, **how) as server, contextlib.ExitStack() as ends:
+        for _ in range(2 * SILENT):
+            ends.enter_context(connect(server.port))
+            ask(server.port, b"/a.txt\r\n")
+        _, errors, _ = server.terminate()
+    closed = [int(line[len(CLOSED):]) for line in errors.splitlines() if line.startswith(CLOSED)]
+    logs.expect("connections closed for room are told once", closed, [1])
+
+
+def check_mode(logs):
+    """A log that is made can be read by its owner and its group alone; one that is there stays as it is."""
+    made, old = logs.folder / "made", logs.folder / "there"
+    old.touch()
+    old.chmod(0o644)
+    for path, mode in ((made, 0o640), (old, 0o644)):
+        with logs.logging(path, 1) as server:
+            ask(server.port, b"/a.txt\r\n")
+        logs.expect(f"who may read the log {path.name}", oct(path.stat().st_mode & 0o777), oct(mode))
 
 
 CHECKS = (
     check_fields, check_steady, check_idle, check_refused_watch, check_empty_writes, check_closed, check_silence, check_reset,
-    check_threads, check_standard_error, check_unread, check_read_at_the_end, check_never_read, check_progress, check_refused,
+    check_reset_at_once, check_threads, check_standard_error, check_unread, check_read_at_the_end, check_never_read, check_late,
+    check_unread_messages, check_closed_for_room, check_mode, check_refused,
 )
 
 
 def check_all(test):
+    """Makes the checks one by one, and the one that mostly waits beside them."""
     logs = Logs(test)
-    for check in CHECKS:
-        check(logs)
+    with ThreadPoolExecutor(1) as beside:
+        waits = beside.submit(check_progress, logs)
+        for check in CHECKS:
+            check(logs)
+        waits.result()
 
 
 if __name__ == "__main__":

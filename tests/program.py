@@ -46,6 +46,12 @@ BAD_ARGUMENTS = [
     *((("serve", "s.toml", f"--clients-per-address={word}"), "--clients-per-address") for word in ("", "0", "1000001", "-1", "1.5")),
     (("serve", "s.toml", "--list-found"), "--list-found"),
 ]
+# The largest numbers and the smallest of options with which a server serves; those past them are refused above.
+AT_LIMITS = (
+    ("--requests", 1_000_000), ("--clients-per-address", 1), ("--clients-per-address", 1_000_000), ("--fetch-timeout", 0),
+    ("--fetch-timeout", 86_400), ("--fetch-pause", 0), ("--fetch-pause", 3_600_000), ("--crawl-memory", 0),
+    ("--crawl-memory", 2**64 - 1), ("--crawl-memory", f"{2**34 - 1}G"),
+)
 # Words that show a text, and its parts.
 SHOWN = (
     (("--help",), ["\n  check "]), (("--version",), ["hole "]), (("check", "examples/hole.toml"), ["\nsound\n"]),
@@ -56,19 +62,22 @@ SHOWN = (
 SEED = '[[seeds]]\nhost = "h"\n[[allow]]\nhost = "h"\n'
 # How many files may be open, and settings whose threads and workers need more.
 FEW_FILES = ((64, "threads = 1\n"), (68, "workers = 4\n" + SEED), (89, "threads = 8\nworkers = 16\n" + SEED))
-NO_THREAD = b"hole: 82\n"
+NO_THREAD, NOT_STARTED = b"hole: 82\n", b"hole: a server thread can't be started\n"
 FINISHED = b"hole: crawl finished: 0 found, 0 failed, 0 dropped in 0 s\n"
 # The number of server threads; which of the threads don't start; more words; whether a text is sent; the output at the end, and
 # the errors.
 THREADS = (
     (1, "1" * 20, ("--requests", 1), False, b"", NO_THREAD),
-    (1, "1" * 20, ("--progress",), False, b"", b"hole: a server thread can't be started\n" + NO_THREAD),
+    (1, "1" * 20, ("--progress",), False, b"", NOT_STARTED + NO_THREAD),
     (2, "11", ("--requests", 1), False, b"", NO_THREAD),
     (2, "01", ("--requests", 0), False, b"", NO_THREAD),
+    (2, "001", ("--progress", "--requests", 0), False, b"", NOT_STARTED + SIZES[:-1] + b" failed 0\n" + FINISHED + NO_THREAD),
     (2, "10", ("--requests", 0), False, b"", NO_THREAD),
     (2, "0" + "1" * 20, ("--requests", 1), True, b"", NO_THREAD),
     # only the thread that prints the crawl's sizes lacks
-    (1, "0" + "1" * 20, ("--progress", "--requests", 1), True, SIZES, SIZES[:-1] + b" failed 0\n" + FINISHED),
+    (1, "00" + "1" * 20, ("--progress", "--requests", 1), True, SIZES, SIZES[:-1] + b" failed 0\n" + FINISHED),
+    # and also the one that prints messages, which starts first
+    (1, "10" + "1" * 20, ("--progress", "--requests", 1), True, SIZES, SIZES[:-1] + b" failed 0\n" + FINISHED),
 )
 PORT = "7070"
 # How a terminal may end a program.
@@ -144,8 +153,12 @@ def check_errors(test):
 
 
 def check_starts(test):
-    """Threads that don't start, and files of which too few may be open: the server ends with its number."""
+    """Numbers at their limits, with which a server serves. Threads that don't start, and files of which too few may be open: the
+    server ends with its number."""
     root = test.site({"a.txt": b"hello\n"})
+    for words in AT_LIMITS:
+        with test.serving(root, *words) as server:
+            test.expect(f"{words}: a text", ask(server.port, b"/a.txt\r\n"), b"hello\r\n.\r\n")
     for threads, refused, words, is_asked, output, errors in THREADS:
         before = test.preload("streams", REFUSED_THREADS=refused)
         with test.serving(root, *words, more=f"threads = {threads}\nworkers = 1\n", before=before) as server:

@@ -73,7 +73,7 @@ def crawl_of(pages, sizes, larks):
     draw = random.Random(pages)
 
     def ask(number):
-        words = (word for word in SOUGHT if number < 2000 or word not in (b"m", *ALIKE))
+        words = (word for word in SOUGHT if number < 2000 or word not in ALIKE and (number < 6000 or word != b"m"))
         return asked(QUESTIONS, words) if number + 1 in sizes else ()
 
     selectors = [b"%d" % (number * 40503 & 0xFFFF) for number in range(pages)]
@@ -180,8 +180,10 @@ def crawl_of_many_lines():
 
 
 def crawl_of_frequent_words():
-    """Pages of which more than a search gives have one word 300 times, before and after they are merged."""
-    return crawl(numbers(130), [b"lark " * 300] * 130, lambda number: asked((b"lark", b"l*"), ()) if number in (54, 63, 129) else ())
+    """Pages of which many more than a search gives have one word 300 times, before and after they are merged: segments are so
+    large then that a search guesses which score its hits have."""
+    asks = (54, 511, 512, 800, 1024, 1200, 1399)
+    return crawl(numbers(1400), [b"l " * 300] * 1400, lambda number: asked((b"l", b"l*", b"l or m"), ()) if number in asks else ())
 
 
 LARGEST = (

@@ -128,6 +128,7 @@ HOST_CASE = (
 # A rule and a place that are refused, and a command before its time.
 REFUSED_PARTS = [
     (b"allow\ta b\t70\t\n", b"refused 3\n", None), (b"seed\t7\th\t70\t\n", b"refused 1\n", None), (b"claim\n", b"", 1),
+    (b"seed\t0\t%s\t70\t\nseed\t0\t%s\t70\t\n" % (b"h" * 255, b"h" * 256), b"refused 3\n", None),
 ]
 
 # Of two links one is denied, by a rule whose host is spelled in another case.

@@ -1,5 +1,6 @@
-/* Loaded before a program: refuses, if REFUSED_WATCHES is set, to watch what a client can be written to. The first EMPTY_WRITES
-   writes to regular files take no byte, and the first BROKEN_ACCEPTS accepts fail as if their listener were broken. */
+/* Loaded before a program: refuses, if REFUSED_WATCHES is set, to watch what a client can be written to, and of the watches of
+   listeners the one whose number, from 1, is REFUSED_REPORT. The first EMPTY_WRITES writes to regular files take no byte, and the
+   first BROKEN_ACCEPTS accepts fail as if their listener were broken. With REFUSED_BINDS no address may be bound. */
 #define _GNU_SOURCE
 #include <dlfcn.h>
 #include <errno.h>
@@ -10,7 +11,7 @@
 #include <sys/stat.h>
 #include <unistd.h>
 
-static atomic_long writes, accepts;
+static atomic_long writes, accepts, reports;
 
 int accept4(int file, struct sockaddr *address, socklen_t *length, int flags) {
   static int (*real)(int, struct sockaddr *, socklen_t *, int);
@@ -23,10 +24,25 @@ int accept4(int file, struct sockaddr *address, socklen_t *length, int flags) {
   return real(file, address, length, flags);
 }
 
+int bind(int file, const struct sockaddr *address, socklen_t length) {
+  static int (*real)(int, const struct sockaddr *, socklen_t);
+  if (!real) real = dlsym(RTLD_NEXT, "bind");
+  if (getenv("REFUSED_BINDS")) {
+    errno = EACCES;
+    return -1;
+  }
+  return real(file, address, length);
+}
+
 int epoll_ctl(int poll, int what, int file, struct epoll_event *event) {
   static int (*real)(int, int, int, struct epoll_event *);
   if (!real) real = dlsym(RTLD_NEXT, "epoll_ctl");
   if (getenv("REFUSED_WATCHES") && what == EPOLL_CTL_ADD && (event->events & EPOLLOUT)) {
+    errno = ENOSPC;
+    return -1;
+  }
+  const char *report = getenv("REFUSED_REPORT");
+  if (report && what == EPOLL_CTL_ADD && (event->events & EPOLLEXCLUSIVE) && atomic_fetch_add(&reports, 1) + 1 == atol(report)) {
     errno = ENOSPC;
     return -1;
   }

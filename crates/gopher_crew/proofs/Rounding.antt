@@ -97,19 +97,19 @@ module _ {F : Type 0} (fetches : F → F → PlaceData → ℕ → OutcomeData �
           → Reports fetches called opened number place old new
       of (Ok bytes) (Ok page) outcome.Found got made unmade hands found failed =
           record { opening = opening; opens = opens; outcome = Fetched bytes.items; fetched = got; once = once; recorded = inl (record { event = Found number page; is_event = (refl, (bytes.items, refl, made ∙ ap (λ s. page_of s place bytes.items) of_opening)); adds = hands; found = found; failed = failed }) }
-      of (Ok bytes) (Ok page) outcome.Failed got made unmade hands found failed =
-          record { opening = opening; opens = opens; outcome = Fetched bytes.items; fetched = got; once = once; recorded = inl (record { event = Failed number NoMemory; is_event = (refl, inr refl); adds = hands; found = found; failed = failed }) }
+      of (Ok bytes) (Ok page) (outcome.Failed why) got made unmade hands found failed =
+          record { opening = opening; opens = opens; outcome = Fetched bytes.items; fetched = got; once = once; recorded = inl (record { event = Failed number why; is_event = (refl, inr hands.0); adds = hands.1; found = found; failed = failed }) }
       of (Ok bytes) (Ok page) outcome.Refused got made unmade hands found failed =
           record { opening = opening; opens = opens; outcome = Fetched bytes.items; fetched = got; once = once; recorded = inr (record { nothing = hands; found = found; failed = failed }) }
       of (Ok bytes) (Err why) outcome.Found got made unmade hands found failed = absurd hands
-      of (Ok bytes) (Err why) outcome.Failed got made unmade hands found failed =
-          record { opening = opening; opens = opens; outcome = Fetched bytes.items; fetched = got; once = once; recorded = inl (record { event = Failed number why; is_event = (refl, inr made); adds = hands; found = found; failed = failed }) }
+      of (Ok bytes) (Err why) (outcome.Failed told) got made unmade hands found failed =
+          record { opening = opening; opens = opens; outcome = Fetched bytes.items; fetched = got; once = once; recorded = inl (record { event = Failed number told; is_event = (refl, inr (hands.0 ∙ made)); adds = hands.1; found = found; failed = failed }) }
       of (Ok bytes) (Err why) outcome.Refused got made unmade hands found failed =
           record { opening = opening; opens = opens; outcome = Fetched bytes.items; fetched = got; once = once; recorded = inr (record { nothing = hands; found = found; failed = failed }) }
       of (Err fault) (Ok page) result got made unmade hands found failed = absurd (cc unmade)
       of (Err fault) (Err why) outcome.Found got made unmade hands found failed = absurd hands
-      of (Err fault) (Err why) outcome.Failed got made unmade hands found failed =
-          record { opening = opening; opens = opens; outcome = Unfetched fault; fetched = got; once = once; recorded = inl (record { event = Failed number why; is_event = (refl, inl (cc unmade)); adds = hands; found = found; failed = failed }) }
+      of (Err fault) (Err why) (outcome.Failed told) got made unmade hands found failed =
+          record { opening = opening; opens = opens; outcome = Unfetched fault; fetched = got; once = once; recorded = inl (record { event = Failed number told; is_event = (refl, inl (cc (unmade, hands.0))); adds = hands.1; found = found; failed = failed }) }
       of (Err fault) (Err why) outcome.Refused got made unmade hands found failed =
           record { opening = opening; opens = opens; outcome = Unfetched fault; fetched = got; once = once; recorded = inr (record { nothing = hands; found = found; failed = failed }) }
 

@@ -1,5 +1,5 @@
 -- What the calls of a desk return, and of which records their notes are.
-use Rattle.std.specs.Prelude.{ℕ, ◌≡◌, ◌≢◌, List, [], ◌∷◌, ◌++◌, map, Option, None, Some, true, false, slice_get}
+use Rattle.std.specs.Prelude.{ℕ, ◌≡◌, ◌≢◌, List, [], ◌∷◌, ◌++◌, map, Option, None, Some, true, false, length, slice_get}
 use mathlib.Core.List.{IsPrefix}
 use Rattle.gopher_page.specs.Page.{PageData}
 use Rattle.gopher_catalogue.specs.declared.event.EventData.{EventData}
@@ -11,10 +11,12 @@ use Rattle.gopher_catalogue.specs.Opening.{OpeningData}
 use Rattle.gopher_catalogue.specs.Fault.{IsFoundFault}
 use Rattle.gopher_catalogue.specs.EventOf.{event_data}
 use Rattle.gopher_catalogue.specs.Legal.{IsLegal}
+use Rattle.gopher_catalogue.specs.Pages.{pages_found}
 use Rattle.gopher_catalogue.specs.declared.frontier.sizes.Added.{Added}
 use Rattle.gopher_catalogue.specs.declared.frontier.sizes.Status.{Status}
 use Rattle.gopher_catalogue.specs.Step.{TurnData, Take, Idle, turn_of, after_turn, added_by, found_fault, is_out_in, status_of}
 use Rattle.gopher_catalogue.specs.Turn.{IsTake}
+use Rattle.gopher_crew.specs.declared.desk.outcomes.Outcomes.{Outcomes}
 use Rattle.gopher_crew.specs.Publication.{PublicationData}
 use Rattle.gopher_crew.specs.Share.{ShareData, MadeNext}
 
@@ -101,6 +103,16 @@ IsStatusOf status record_ = (status ≡ status_of record_) × IsLegal record_
 -- the status of a legal record that begins with the one that a desk was opened with
 abbrev pub IsStatusAfter : List EventData → Status → Type 0
 IsStatusAfter opened status = Later opened (IsStatusOf status)
+
+-- these are the states of places of a legal record, and the number of pages that it found
+abbrev pub AreOutcomesOf : Outcomes → List EventData → Type 0
+AreOutcomesOf outcomes record_ =
+    (outcomes.status ≡ status_of record_)
+    × (outcomes.found ≡ length (pages_found record_)) × IsLegal record_
+
+-- the states and the pages of a legal record that begins with the one that a desk was opened with
+abbrev pub AreOutcomesAfter : List EventData → Outcomes → Type 0
+AreOutcomesAfter opened outcomes = Later opened (AreOutcomesOf outcomes)
 
 -- these are the events of a legal record
 abbrev pub AreEventsOf : List Event → List EventData → Type 0

@@ -3,6 +3,7 @@ pub mod History
 pub mod Version
 pub mod MergeJob
 pub mod Merging
+pub mod Memory
 pub mod Publication
 pub mod Fault
 pub mod Kept

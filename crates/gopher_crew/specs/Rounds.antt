@@ -79,12 +79,18 @@ pub record AddsNothing (number : ℕ) (old new : ShareData) : Type 0 where
   pub refuses : RefusesFailure number new
   pub counts : Rises 0 old new
 
--- what became of a number, for which there was a page or the reason why there is none
+-- why a number fails for which there is a page, or the reason why there is none
+abbrev pub reason_of : Result PageData Why → Why
+reason_of (Ok page) = NoMemory
+reason_of (Err why) = why
+
+-- what became of a number, for which there was a page or the reason why there is none. The outcome
+-- has the reason of the event that was added
 abbrev pub HandsIn : Outcome → ℕ → Result PageData Why → ShareData → ShareData → Type 0
 HandsIn outcome.Found number (Ok page) old new = Adds (Found number page) old new
 HandsIn outcome.Found number (Err why) old new = ⊥
-HandsIn outcome.Failed number (Ok page) old new = Adds (Failed number NoMemory) old new
-HandsIn outcome.Failed number (Err why) old new = Adds (Failed number why) old new
+HandsIn (outcome.Failed why) number settled old new =
+    (why ≡ reason_of settled) × Adds (Failed number why) old new
 HandsIn outcome.Refused number settled old new = AddsNothing number old new
 
 -- ---- what the desk's rule admits

@@ -28,7 +28,7 @@ found_with Found found = one_more_outcome found
 found_with outcome found = found
 
 abbrev pub failed_with : Outcome → ℕ → ℕ
-failed_with Failed failed = one_more_outcome failed
+failed_with (Failed why) failed = one_more_outcome failed
 failed_with outcome failed = failed
 
 -- a worker, without why it stopped

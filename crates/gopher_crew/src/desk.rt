@@ -9,12 +9,13 @@ ghost use Rattle.gopher_crew.specs.Admitted.{AllAdmitted, MayAdd};
 ghost use Rattle.gopher_crew.specs.Share.{CountsReply, Rises, RisesBy};
 ghost use Rattle.gopher_crew.specs.Desk.{are_counts, shares_at, AllHaveSeen, ComesBack, IsBlankOf, IsDeskFault, HasAll};
 ghost use Rattle.gopher_crew.specs.Publication.{IsPublishedOf, ShowsRecord};
-ghost use Rattle.gopher_crew.specs.Kept.{rise_of, Later, Claims, Finds, Fails, RefusesFind, RefusesFailure, LetsClaim, IsNotIdle, IsOpeningOf, IsStatusOf, IsStatusAfter, IsRecordAfter};
+ghost use Rattle.gopher_crew.specs.Kept.{rise_of, Later, Claims, Finds, Fails, RefusesFind, RefusesFailure, LetsClaim, IsNotIdle, IsOpeningOf, IsStatusOf, IsStatusAfter, AreOutcomesAfter, IsRecordAfter};
 
 pub mod blank;
 pub mod closing;
 pub mod kept;
 pub mod opening;
+pub mod outcomes;
 pub mod refusals;
 pub mod share;
 
@@ -22,6 +23,7 @@ use crate::crew::{Admits, Crew};
 use crate::desk::blank::Blank;
 use crate::desk::kept::{Kept, events_after_first};
 use crate::desk::opening::{cut, writer_with_passes};
+use crate::desk::outcomes::Outcomes;
 use crate::desk::refusals::DeskRefused;
 use crate::desk::share::Share;
 use crate::fault::DeskFault;
@@ -328,8 +330,9 @@ impl<C: Crew, R: Wait + Drop, A: Admits> Desk<C, R, A> {
     }
 
     /// Limits the memory that the pages of workers may take, in bytes as `Page::size` counts them.
-    /// A worker fails a page past it with `NoMemory` (5), as if out of memory. Without a call of
-    /// this there is no limit.
+    /// A worker fails a page past it with `NoMemory` (5), as if out of memory. Workers make pages
+    /// side by side only while the unfinished ones fit as well. Without a call of this there is no
+    /// limit.
     pub fn limit_memory(&self, bytes: u64) {
         self.memory.set_limit(bytes);
     }
@@ -355,6 +358,14 @@ impl<C: Crew, R: Wait + Drop, A: Admits> Desk<C, R, A> {
         ensures { IsStatusAfter self.now result }
     {
         self.kept.lock(rt).status_after(&self.opened)
+    }
+
+    /// Returns the number of places in each state and the number of pages found. They are those of
+    /// one legal record, which begins with the one that the desk was opened with.
+    pub fn outcomes<W: Wait>(&self, rt: &W) -> Outcomes
+        ensures { AreOutcomesAfter self.now result }
+    {
+        self.kept.lock(rt).outcomes_after(&self.opened)
     }
 
     /// Returns how much of the record is published: all of it, unless a publication ran out of

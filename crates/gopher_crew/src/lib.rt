@@ -17,12 +17,13 @@
 //! # The way of a found page
 //!
 //! The picture `docs/found.svg` shows it. A worker claims a place under the desk's lock. It fetches
-//! the place and makes its page while it holds no lock. Behind the lock again, `Kept` adds the
-//! event to the catalogue and counts it for the worker's share. The publication enters the event
-//! into the history, and makes an `Update` of the events since the published record. Its writer
+//! the place while it holds no lock, and makes its page without the desk's: under a limit of memory
+//! it first waits for room (`PageMemory`). Behind the desk's lock again, `Kept` adds the event to
+//! the catalogue and counts it for the worker's share. The publication enters the event into the
+//! history, and makes an `Update` of the events since the published record. Its writer
 //! (`left_right`) keeps two copies: readers use one while the writer changes the other, and each
 //! update is applied to both. An update changes no pages, adds one page, or replaces all pages by
-//! those of an index if segments were merged since.
+//! those of an index if segments were merged since. Then the fetcher is told (`Fetch::recorded`).
 //!
 //! If a publication runs out of memory, its update waits, and the next publication publishes it
 //! first. So at most one update waits, however often memory runs out. The desk counts each failed
@@ -63,7 +64,7 @@
 //! | subject | files |
 //! |---|---|
 //! | opening and closing a desk | `desk`; in `desk/`: `blank`, `opening`, `closing`, `refusals` |
-//! | calls of a desk, behind its lock | `desk`; in `desk/`: `kept`, `share` |
+//! | calls of a desk, behind its lock | `desk`; in `desk/`: `kept`, `outcomes`, `share` |
 //! | workers | `working`; in `working/`: `crawling`, `fetch`, `settling`, `memory` |
 //! | merging | in `working/`: `merging`, `merge_job`; `Kept::merge_job`, `Desk::merge_due` |
 //! | publishing | `publication`; in `publication/`: `update`, `version` |
@@ -97,6 +98,7 @@ mod working;
 pub use crew::{Admits, Crew};
 pub use desk::Desk;
 pub use desk::blank::Blank;
+pub use desk::outcomes::Outcomes;
 pub use desk::refusals::{CloseRefused, DeskRefused};
 pub use desk::share::Share;
 pub use fault::{DeskFault, SearchFault};

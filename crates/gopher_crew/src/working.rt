@@ -62,11 +62,12 @@ impl<F: Drop, C: Crew> fmt::Debug for WorkEnd<F, C> {
     }
 }
 
-// What became of a place that was claimed. `Refused`: the desk refused its page and its failure,
-// because it was no longer out.
+// What became of a place that was claimed. `Failed` has the reason that the record has. `Refused`:
+// the desk refused its page and its failure, because it was no longer out.
+#[derive(Clone, Copy)]
 enum Outcome {
     Found,
-    Failed,
+    Failed(Why),
     Refused,
 }
 
@@ -118,7 +119,7 @@ fn hand_in<C: Crew, R: Wait + Drop, A: Admits, W: Wait>(
         Err(why) => why,
     };
     match desk.fail(rt, share, number, why) {
-        Ok(_note) => Outcome::Failed,
+        Ok(_note) => Outcome::Failed(why),
         Err(_refused) => Outcome::Refused,
     }
 }
@@ -132,13 +133,22 @@ fn count<F: Drop, C: Crew>(outcome: Outcome, worker: &mut WorkEnd<F, C>)
 {
     match outcome {
         Outcome::Found => worker.found = worker.found.saturating_add(1),
-        Outcome::Failed => worker.failed = worker.failed.saturating_add(1),
+        Outcome::Failed(_) => worker.failed = worker.failed.saturating_add(1),
         Outcome::Refused => {}
     }
 }
 
-// Fetches a place that was claimed, makes its page, hands it in or fails the place, and counts what
-// became of it.
+// Tells a fetcher what was recorded of a claim.
+fn tell<W, F: Fetch<W>>(rt: &W, fetcher: &F, claim: &Claim, outcome: Outcome) {
+    match outcome {
+        Outcome::Found => fetcher.recorded(rt, claim.number, &claim.place, None),
+        Outcome::Failed(why) => fetcher.recorded(rt, claim.number, &claim.place, Some(why)),
+        Outcome::Refused => {}
+    }
+}
+
+// Fetches a place that was claimed, waits for room, makes its page, hands it in or fails the place,
+// counts what became of it, and tells the fetcher.
 fn fetch_and_report<C: Crew, R: Wait + Drop, A: Admits, W: Wait, F: Fetch<W> + Drop>(
     rt: &W,
     alloc: Global,
@@ -151,9 +161,12 @@ fn fetch_and_report<C: Crew, R: Wait + Drop, A: Admits, W: Wait, F: Fetch<W> + D
     ensures { ReportsOf F.fetches F.called desk.now claim.now worker.old worker.new }
 {
     let fetched = worker.fetcher.fetch(rt, alloc, &claim.place, MAX_REPLY);
+    let room = desk.memory().room_for(rt, &fetched);
     let settled = settle_shared(alloc, desk.opening().scope(), &claim.place, fetched);
     let outcome = hand_in(rt, desk, &mut worker.share, claim.number, settled);
+    desk.memory().leave(room);
     count(outcome, worker);
+    tell(rt, &worker.fetcher, claim, outcome);
 }
 
 impl<F: Drop, C: Crew> WorkEnd<F, C> {
@@ -226,9 +239,9 @@ pub(crate) fn run<C: Crew, R: Wait + Drop, A: Admits, W: Wait, F: Fetch<W> + Dro
 /// It works in rounds (`Round`). Each claims the first waiting place, fetches just that place once,
 /// at most 1,048,576 bytes (`MAX_REPLY`), and adds the event that records the outcome: the page of
 /// the bytes, or the reason why there are none. A page that doesn't fit in memory is failed with
-/// `NoMemory`. If the number is no longer out, which happens only if another caller reports it, the
-/// round adds nothing. So the share rises by two for each place found or failed, and by at most two
-/// for each call of the fetcher.
+/// `NoMemory`. The fetcher is told which event it is. If the number is no longer out, which happens
+/// only if another caller reports it, the round adds nothing. So the share rises by two for each
+/// place found or failed, and by at most two for each call of the fetcher.
 ///
 /// The desk's rule must admit each outcome that the fetcher may have (`Admits`).
 pub fn work<C: Crew, R: Wait + Drop, A: Admits, W: Wait, F: Fetch<W> + Drop>(

@@ -1,5 +1,5 @@
 -- Which fault a server has.
-use Rattle.std.proofs.Common.{◌≡◌, ℕ, Bool, true, false, List, Option, None, Some, if◌then◌else◌, inl, inr, subst}
+use Rattle.std.proofs.Common.{◌≡◌, ℕ, Bool, true, false, List, Option, None, Some, Result, Ok, Err, IfErr, if◌then◌else◌, inl, inr, subst}
 use Rattle.gopher_catalogue.specs.Fault.{HasOpenFault}
 use Rattle.gopher_catalogue.specs.declared.fault.OpenFault.{OpenFault}
 use Rattle.gopher_catalogue.specs.declared.fault.OpenRefused.{OpenRefused}
@@ -109,6 +109,10 @@ serving_is_server (fault.Open why) is = absurd is
 serving_is_server (fault.Desk why) is = absurd is
 serving_is_server fault.StrangeShare is = absurd is
 serving_is_server fault.Warned is = absurd is
+
+pub serving_ends_server : {T : Type 0} (result : Result T ProgramFault) → IfErr result IsServingFault → IfErr result IsServerFault
+serving_ends_server (Ok end) is = tt
+serving_ends_server (Err why) is = serving_is_server why is
 
 -- the fault of a server whose threads and crawl have ended
 pub end_is_serving : (end : ThreadsEnd) (crawled : Bool) (why : ProgramFault) → fault_at_end end crawled ≡ Some why → IsServingFault why

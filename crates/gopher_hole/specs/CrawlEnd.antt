@@ -1,15 +1,8 @@
 -- What is printed when a crawl is over.
-use Rattle.std.specs.Prelude.{ℕ, ◌-◌, Bool, true, false, ◌&&◌, ◌==◌, List, ◌++◌, codes, if◌then◌else◌}
+use Rattle.std.specs.Prelude.{ℕ, ◌-◌, Bool, ◌&&◌, ◌==◌, List, ◌++◌, codes, if◌then◌else◌}
 use Rattle.std.specs.Fmt.{decimal}
-use Rattle.gopher_catalogue.specs.declared.event.EventData.{EventData}
-use Rattle.gopher_catalogue.specs.declared.event.EventData.TheVariants.{Found}
 use Rattle.gopher_catalogue.specs.declared.frontier.sizes.Status.{Status}
 use Rattle.gopher_hole.specs.declared.progress.ending.CrawlEnd.{CrawlEnd}
-
--- a place was found
-abbrev pub is_find : EventData → Bool
-is_find (Found number page) = true
-is_find event = false
 
 -- every known place has its last outcome
 abbrev pub is_over : Status → Bool

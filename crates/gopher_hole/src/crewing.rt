@@ -20,7 +20,10 @@ use crate::starting::{AnyEnd, Started, ThreadsEnd, join_all, start_threads};
 use gopher_catalogue::Status;
 use gopher_crew::{Blank, Crew, Desk, Pass, Share, WorkEnd};
 use gopher_item::{Home, NoMemory};
-use gopher_server::{OpenLog, ServerSetup, ThreadEnd, end_log, max_connections, set_up, start_log};
+use gopher_server::{
+    Messages, OpenLog, ServerSetup, ThreadEnd, end_log, max_connections, set_up, start_log,
+    start_messages,
+};
 use gopher_text::Watched;
 use mio::net::TcpListener;
 use std::alloc::Global;
@@ -102,6 +105,7 @@ fn start<C: Crew + Send + Sync + 'static, R: System + Net>(
     server: ServerSetup,
     content: Content,
     passes: Vec<Pass<C>>,
+    state: &CrawlState,
 ) -> Result<Started<AnyEnd>, ProgramFault>
     ensures started { IfOk result (λ started. StartsAll passes started) }
     ensures fault { IfErr result IsServingFault }
@@ -111,7 +115,11 @@ fn start<C: Crew + Send + Sync + 'static, R: System + Net>(
     let Ok(content) = Arc::new(alloc, content) else {
         return Err(ProgramFault::NoMemory);
     };
-    let started = start_threads(rt, alloc, &content, setups, passes, tells);
+    let started = start_threads(rt, alloc, &content, setups, passes);
+    if started.is_short && tells {
+        let stream = state.stream(rt);
+        let _ = stream.eprintln("hole: a server thread can't be started");
+    }
     if started.threads.is_empty() {
         return Err(ProgramFault::NoThread);
     }
@@ -247,10 +255,12 @@ fn listen_and_serve<
         clients_per_address: Some(clients_of(serving, places, workers)),
         log: log.as_ref().and_then(|log| log.queue()),
         tells: serving.progress,
+        messages: reporting.state.messages(),
     };
-    let started = start(rt, alloc, server, content, passes);
+    let started = start(rt, alloc, server, content, passes, reporting.state);
     let ended = crawl_to_end(rt, alloc, started, desk, pairs, reporting);
     end_log(rt, alloc, log);
+    reporting.state.end_messages(rt);
     ended
 }
 
@@ -282,6 +292,15 @@ fn serve_and_close<
     close(alloc, desk, ends)
 }
 
+// Starts the thread that prints messages, if there may be some beside a crawl.
+fn messages_for<R: System>(rt: &R, serving: &Serving<'_>) -> Option<Arc<Messages>> {
+    if serving.progress || serving.crawl_memory.is_some() || serving.list_found.is_some() {
+        start_messages(rt, rt.alloc())
+    } else {
+        None
+    }
+}
+
 /// Serves and crawls as the settings say. Writes the line `listening HOST PORT` once it listens,
 /// and the number of places in each state after the crawl and the last connection.
 ///
@@ -296,7 +315,7 @@ fn serve_and_close<
 /// - `NoThread` (82): a server thread couldn't be started
 /// - `WriteFailed` (13): a line couldn't be written or flushed
 /// - `NoMemory` (90)
-#[tactic(auto, using(crate::proofs::ServerFaults::settings_is_server, crate::proofs::ServerFaults::aliases_is_server, crate::proofs::ServerFaults::opening_is_server, crate::proofs::ServerFaults::serving_is_server))]
+#[tactic(auto, using(crate::proofs::ServerFaults::settings_is_server, crate::proofs::ServerFaults::aliases_is_server, crate::proofs::ServerFaults::opening_is_server, crate::proofs::ServerFaults::serving_is_server, crate::proofs::ServerFaults::serving_ends_server))]
 pub fn serve<
     C: Crew + Send + Sync + 'static,
     R: System + Files<File = File> + Net<Listener = NetListener, Stream = TcpStream>,
@@ -310,7 +329,8 @@ pub fn serve<
     let alloc = rt.alloc();
     let settings = read_settings(rt, alloc, serving.settings)?;
     let aliases = read_aliases(rt, alloc, serving.aliases)?;
-    let state = CrawlState::new(alloc, &settings.home, settings.tries, serving)?;
+    let messages = messages_for(rt, serving);
+    let state = CrawlState::new(alloc, &settings.home, settings.tries, serving, messages)?;
     let reporting = Reporting {
         state: &state,
         list_found: serving.list_found,

@@ -1,4 +1,4 @@
-//! The places that a crawl fails to fetch, printed as they fail.
+//! The places that fail in a crawl, printed as they fail.
 
 ghost use Rattle.std.specs.Prelude.{◌≡◌};
 ghost use Rattle.gopher_hole.specs.Fault.{is_last_try, reason_name};
@@ -6,8 +6,7 @@ ghost use Rattle.gopher_hole.specs.Fault.{is_last_try, reason_name};
 use crate::fetching::Cause;
 use crate::progress::urls::PlaceUrl;
 use gopher_catalogue::Why;
-use gopher_item::Place;
-use indexmap::IndexMap;
+use gopher_item::{NoMemory, Place};
 use std::alloc::Global;
 use std::io::{self, Eprint};
 use std::sync::atomic::{AtomicU64, Ordering};
@@ -16,15 +15,15 @@ use std::sync::{Mutex, Wait};
 // The most failed places that are printed.
 const MAX_PRINTED: u64 = 1_000;
 
-/// How many places a crawl failed to fetch. Its workers share it.
+/// How many places of a crawl failed. Its workers share it.
 #[derive(Drop)]
 pub struct Failures {
     /// Whether they are printed.
     pub are_told: bool,
     // How often a place is tried.
     tries: u32,
-    // How often the places failed that may be tried again.
-    tried: Mutex<IndexMap<Place, u32>>,
+    // How often the place with each number failed, if places are tried again.
+    tried: Mutex<Vec<u8>>,
     failed: AtomicU64,
 }
 
@@ -34,6 +33,17 @@ fn is_last_try(failed: u32, tries: u32) -> bool
     ensures { result ≡ is_last_try failed tries }
 {
     tries <= failed.saturating_add(1)
+}
+
+// Counts one more failed try of the place with this number, and returns how many there were before.
+fn add_try(tried: &mut Vec<u8>, number: u32) -> Result<u8, NoMemory> {
+    let number = number as usize;
+    if tried.len() <= number {
+        tried.resize(number + 1, 0)?;
+    }
+    let failed = tried[number];
+    tried[number] = failed.saturating_add(1);
+    Ok(failed)
 }
 
 // The name of a reason.
@@ -49,9 +59,9 @@ fn reason_name(why: Why) -> &'static str
     }
 }
 
-// Prints the line of a place that failed: its URL, the reason, and what stopped the fetch in words,
-// if there are some. No byte of the place reaches a terminal unless it is printable.
-fn print_failure(rt: &impl Eprint, place: &Place, why: Why, cause: Cause) {
+/// Prints the line of a place that failed: its URL, the reason, and what stopped the fetch in
+/// words, if there are some. No byte of the place reaches a terminal unless it is printable.
+pub fn print_failure(rt: &impl Eprint, place: &Place, why: Why, cause: Cause) {
     let (url, reason, words) = (PlaceUrl::of(place), reason_name(why), cause.words());
     let _ = match cause {
         Cause::Unknown => eprintln!(rt; "hole: failed: {url}: {reason}"),
@@ -70,7 +80,7 @@ impl Failures {
         Failures {
             are_told,
             tries,
-            tried: Mutex::new(IndexMap::new(alloc)),
+            tried: Mutex::new(Vec::new(alloc)),
             failed: AtomicU64::new(0),
         }
     }
@@ -80,36 +90,29 @@ impl Failures {
         self.failed.load(Ordering::SeqCst)
     }
 
-    // Counts a failed try of a place that may be tried again. Returns whether it was the last one,
-    // or false if memory runs out.
-    fn count_try(&self, rt: &impl Wait, place: &Place) -> bool {
+    // Counts a failed try of the place with this number. Returns whether it was the last one, or
+    // false if memory runs out.
+    fn count_try(&self, rt: &impl Wait, number: u32) -> bool {
         let mut tried = self.tried.lock(rt);
-        let failed = match tried.get(place) {
-            Some(failed) => *failed,
-            None => 0,
-        };
-        if let Ok(key) = place.clone() {
-            let _before = tried.insert(key, failed.saturating_add(1));
-            return is_last_try(failed, self.tries);
+        match add_try(&mut tried, number) {
+            Ok(failed) => is_last_try(u32::from(failed), self.tries),
+            Err(_full) => false,
         }
-        false
     }
 
-    /// Adds a failed fetch of a place, if failures are printed. If the place isn't tried again,
-    /// counts it, and prints it with the reason and the cause on the error stream, unless 1,000
-    /// places were printed before.
-    pub fn add<R: Wait + Eprint>(&self, rt: &R, place: &Place, why: Why, cause: Cause) {
+    /// Adds a failure of the place with this number, if failures are printed. If the place isn't
+    /// tried again, counts it. Returns whether it is to be printed: it was counted, and at most
+    /// 1,000 places with it.
+    pub fn add(&self, rt: &impl Wait, number: u32) -> bool {
         if !self.are_told {
-            return;
+            return false;
         }
-        let is_last = is_last_try(0, self.tries) || self.count_try(rt, place);
-        if is_last && self.failed.fetch_add(1, Ordering::SeqCst) < MAX_PRINTED {
-            print_failure(rt, place, why, cause);
-        }
+        let is_last = is_last_try(0, self.tries) || self.count_try(rt, number);
+        is_last && self.failed.fetch_add(1, Ordering::SeqCst) < MAX_PRINTED
     }
 
     /// Prints on the error stream how many places failed without being printed, if any did.
-    pub fn tell_unprinted<R: Eprint>(&self, rt: &R) {
+    pub fn tell_unprinted(&self, rt: &impl Eprint) {
         let unprinted = self.count().saturating_sub(MAX_PRINTED);
         if unprinted > 0 {
             let _ = eprintln!(rt; "hole: failed places that aren't printed: {unprinted}");

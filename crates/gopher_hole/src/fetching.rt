@@ -149,11 +149,13 @@ fn fetch_and_note<R: Net + Clock + Wait + Eprint>(
 }
 
 /// Fetches as a `TcpFetch` does, but in time, as the state of the crawl says, and none of the hosts
-/// that are given up. Adds each failed fetch to the failures of the crawl.
+/// that are given up. Adds each place that is recorded as failed to the failures of the crawl.
 #[derive(Drop)]
 pub struct CrawlFetch<'a> {
     calls: u64,
     state: &'a CrawlState,
+    // What stopped the last fetch; `Unknown` if nothing did.
+    cause: Cause,
 }
 
 impl<'a> CrawlFetch<'a> {
@@ -161,7 +163,11 @@ impl<'a> CrawlFetch<'a> {
     pub fn new(state: &'a CrawlState) -> CrawlFetch<'a>
         ensures { result.calls ≡ 0 }
     {
-        CrawlFetch { calls: 0, state }
+        CrawlFetch {
+            calls: 0,
+            state,
+            cause: Cause::Unknown,
+        }
     }
 }
 
@@ -185,13 +191,19 @@ impl<'a, R: Net<Listener = TcpListener, Stream = TcpStream> + Clock + Wait + Epr
         limit: usize,
     ) -> Result<Vec<u8>, Why> {
         self.calls = self.calls.saturating_add(1);
+        self.cause = Cause::Unknown;
         match fetch_and_note(rt, alloc, self.state, place, limit) {
             Ok(reply) => Ok(reply),
             Err(failure) => {
-                let Failure { why, cause } = failure;
-                self.state.failures.add(rt, place, why, cause);
-                Err(why)
+                self.cause = failure.cause;
+                Err(failure.why)
             }
+        }
+    }
+
+    fn recorded(&self, rt: &R, number: u32, place: &Place, failed: Option<Why>) {
+        if let Some(why) = failed {
+            self.state.add_failure(rt, number, place, why, self.cause);
         }
     }
 }

@@ -10,16 +10,15 @@ pub mod outs;
 pub mod telling;
 pub mod urls;
 
-use crate::failures::Failures;
 use crate::fetching::{CrawlFetch, CrawlState};
 use crate::progress::dropped::most_dropped;
-use crate::progress::ending::{CrawlEnd, found_places};
+use crate::progress::ending::CrawlEnd;
 use crate::progress::listing::write_list;
 use crate::progress::outs::Outs;
 use crate::progress::telling::{Sizes, StoppedWorkers, is_limit_due, newly_stopped};
 use crate::progress::urls::{HostPort, PlaceUrl};
 use gopher_catalogue::{Event, Status};
-use gopher_crew::{CrawlRefused, Crew, Desk, Share, WorkEnd, crawl};
+use gopher_crew::{CrawlRefused, Crew, Desk, Outcomes, Share, WorkEnd, crawl};
 use gopher_item::NoMemory;
 use std::alloc::Global;
 use std::fs::Files;
@@ -42,7 +41,7 @@ const MAX_SLOW: u32 = 32;
 /// What a crawl prints.
 #[derive(Clone, Copy)]
 pub struct Reporting<'a> {
-    /// What its workers share. Its failures say whether anything but the list is printed.
+    /// What its workers share. Its failures say whether anything but the list is told.
     pub state: &'a CrawlState,
     /// The path of the list of the places that were found; `None` if none is written.
     pub list_found: Option<&'a str>,
@@ -89,7 +88,7 @@ fn tell_stopped<C: Crew, R: Wait + Drop>(rt: &impl Eprint, desk: &Desk<C, R>, to
 
 // Prints on the error stream each place that has been out for longer than ten seconds and wasn't
 // printed before.
-fn tell_slow<W: Wait + Clock + Eprint>(rt: &W, outs: &Outs) {
+fn tell_slow<W: Wait + Clock>(rt: &W, stream: &impl Eprint, outs: &Outs) {
     let Ok(now) = Instant::now(rt) else {
         return;
     };
@@ -98,7 +97,7 @@ fn tell_slow<W: Wait + Clock + Eprint>(rt: &W, outs: &Outs) {
             return;
         };
         let url = PlaceUrl::of(&place);
-        let _ = eprintln!(rt; "hole: slow: {seconds} s {url}");
+        let _ = eprintln!(stream; "hole: slow: {seconds} s {url}");
     }
 }
 
@@ -107,17 +106,18 @@ fn tell_slow<W: Wait + Clock + Eprint>(rt: &W, outs: &Outs) {
 fn wait_for_end<C: Crew, R: Wait + Drop, W: Wait + Clock + Eprint>(
     rt: &W,
     desk: &Desk<C, R>,
-    outs: &Outs,
+    state: &CrawlState,
     is_over: &AtomicBool,
     stopped: &mut u64,
 ) -> bool {
+    let stream = state.stream(rt);
     for _rest in 0..RESTS {
         let was_over = is_over.load(Ordering::SeqCst);
-        *stopped = tell_stopped(rt, desk, *stopped);
+        *stopped = tell_stopped(&stream, desk, *stopped);
         if was_over {
             return true;
         }
-        tell_slow(rt, outs);
+        tell_slow(rt, &stream, &state.outs);
         thread::sleep(rt, Duration::from_millis(REST));
     }
     false
@@ -129,26 +129,23 @@ fn wait_for_end<C: Crew, R: Wait + Drop, W: Wait + Clock + Eprint>(
 fn tell_until_over<C: Crew, R: Wait + Drop, W: Wait + Clock + Eprint>(
     rt: &W,
     desk: &Desk<C, R>,
-    reporting: Reporting<'_>,
+    state: &CrawlState,
     is_over: &AtomicBool,
 ) {
-    let failures = &reporting.state.failures;
+    let stream = state.stream(rt);
     let mut told = None;
     let mut is_limit_told = false;
     let mut stopped = 0;
     for _round in rt.forever() {
-        let was_over = wait_for_end(rt, desk, &reporting.state.outs, is_over, &mut stopped);
-        let sizes = Sizes {
-            status: desk.status(rt),
-            failed: failures.count(),
-        };
+        let was_over = wait_for_end(rt, desk, state, is_over, &mut stopped);
+        let sizes = Sizes::of(desk.outcomes(rt));
         if sizes.are_due(told) {
-            tell(rt, sizes);
+            tell(&stream, sizes);
             told = Some(sizes);
         }
-        is_limit_told = tell_limit(rt, desk, is_limit_told);
+        is_limit_told = tell_limit(&stream, desk, is_limit_told);
         if was_over {
-            failures.tell_unprinted(rt);
+            state.failures.tell_unprinted(&stream);
             return;
         }
     }
@@ -163,35 +160,28 @@ fn tell_dropped(rt: &impl Eprint, alloc: Global, events: &[Event]) {
     }
 }
 
-// How many places were found: by the record, or without memory for it by the places that failed.
-fn count_found(events: &Result<Vec<Event>, NoMemory>, status: Status, failed: u64) -> u64 {
-    match events {
-        Ok(events) => found_places(events),
-        Err(_refused) => u64::from(status.done).saturating_sub(failed),
-    }
-}
-
 // Prints on the error stream how a crawl ended that began then.
 fn tell_end<C: Crew, R: Wait + Drop, W: Wait + Clock + Eprint>(
     rt: &W,
     alloc: Global,
     desk: &Desk<C, R>,
-    failures: &Failures,
+    state: &CrawlState,
     events: &Result<Vec<Event>, NoMemory>,
     began: io::Result<Instant>,
 ) {
-    let status = desk.status(rt);
+    let stream = state.stream(rt);
+    let Outcomes { status, found } = desk.outcomes(rt);
     let end = CrawlEnd {
         status,
-        found: count_found(events, status, failures.count()),
+        found,
         stopped: desk.stopped_workers(),
         seconds: seconds_since(rt, began),
     };
-    let _ = eprintln!(rt; "hole: crawl {end}");
+    let _ = eprintln!(stream; "hole: crawl {end}");
     if let Ok(events) = events
         && status.dropped > 0
     {
-        tell_dropped(rt, alloc, events);
+        tell_dropped(&stream, alloc, events);
     }
 }
 
@@ -204,8 +194,9 @@ fn seconds_since(rt: &impl Clock, began: io::Result<Instant>) -> u64 {
 }
 
 // Writes the list of the places that were found. If that fails, prints why on the error stream.
-fn list_found<W: Files + Eprint>(
+fn list_found<W: Files>(
     rt: &W,
+    stream: &impl Eprint,
     alloc: Global,
     events: &Result<Vec<Event>, NoMemory>,
     path: &str,
@@ -215,7 +206,9 @@ fn list_found<W: Files + Eprint>(
         Err(_refused) => Err(io::Error::from(ErrorKind::OutOfMemory)),
     };
     if let Err(error) = written {
-        let _ = eprintln!(rt; "hole: the list of found places can't be written: {path}: {error}");
+        let _ = eprintln!(stream;
+            "hole: the list of found places can't be written: {path}: {error}"
+        );
     }
 }
 
@@ -227,16 +220,17 @@ fn report_end<C: Crew, R: Wait + Drop, W: Wait + Clock + Eprint + Files>(
     reporting: Reporting<'_>,
     began: io::Result<Instant>,
 ) {
-    let failures = &reporting.state.failures;
-    if !failures.are_told && reporting.list_found.is_none() {
+    let state = reporting.state;
+    let are_told = state.failures.are_told;
+    if !are_told && reporting.list_found.is_none() {
         return;
     }
     let events = desk.record(rt, alloc);
-    if failures.are_told {
-        tell_end(rt, alloc, desk, failures, &events, began);
+    if are_told {
+        tell_end(rt, alloc, desk, state, &events, began);
     }
     if let Some(path) = reporting.list_found {
-        list_found(rt, alloc, &events, path);
+        list_found(rt, &state.stream(rt), alloc, &events, path);
     }
 }
 
@@ -269,11 +263,12 @@ fn crawl_alone<
     alloc: Global,
     desk: &Desk<C, R>,
     pairs: Vec<(CrawlFetch<'a>, Share<C>)>,
+    state: &CrawlState,
 ) -> Result<Vec<WorkEnd<CrawlFetch<'a>, C>>, CrawlRefused<CrawlFetch<'a>, C>>
     ensures { IfOk result (λ ends. KeepsAllParts pairs.entry.items ends.items) }
 {
     let crawled = crawl_whole(rt, alloc, desk, pairs);
-    tell_limit(rt, desk, false);
+    tell_limit(&state.stream(rt), desk, false);
     crawled
 }
 
@@ -288,7 +283,7 @@ fn crawl_beside<
     alloc: Global,
     desk: &Desk<C, R>,
     pairs: Vec<(CrawlFetch<'a>, Share<C>)>,
-    reporting: Reporting<'_>,
+    state: &CrawlState,
 ) -> Result<Vec<WorkEnd<CrawlFetch<'a>, C>>, CrawlRefused<CrawlFetch<'a>, C>>
     ensures { IfOk result (λ ends. KeepsAllParts pairs.entry.items ends.items) }
 {
@@ -296,7 +291,7 @@ fn crawl_beside<
     let is_over = &over;
     let (_told, crawled) = thread::join(
         rt,
-        move || tell_until_over(rt, desk, reporting, is_over),
+        move || tell_until_over(rt, desk, state, is_over),
         move || {
             let crawled = crawl_whole(rt, alloc, desk, pairs);
             is_over.store(true, Ordering::SeqCst);
@@ -304,7 +299,8 @@ fn crawl_beside<
         },
     );
     if crawled.is_err() {
-        let _ = rt.eprintln("hole: the crawl can't start: out of memory");
+        let stream = state.stream(rt);
+        let _ = stream.eprintln("hole: the crawl can't start: out of memory");
     }
     crawled
 }
@@ -335,10 +331,11 @@ pub fn crawl_and_tell<
     ensures { IfOk result (λ ends. KeepsAllParts pairs.entry.items ends.items) }
 {
     let began = Instant::now(rt);
-    let crawled = if reporting.state.failures.are_told {
-        crawl_beside(rt, alloc, desk, pairs, reporting)
+    let state = reporting.state;
+    let crawled = if state.failures.are_told {
+        crawl_beside(rt, alloc, desk, pairs, state)
     } else {
-        crawl_alone(rt, alloc, desk, pairs)
+        crawl_alone(rt, alloc, desk, pairs, state)
     };
     if crawled.is_ok() {
         report_end(rt, alloc, desk, reporting, began);

@@ -9,7 +9,11 @@ use gopher_crew::{Crew, Pass};
 use gopher_server::{ThreadEnd, ThreadSetup, serve};
 use std::alloc::Global;
 use std::sync::Arc;
-use std::thread::{self, Promise, PromisedHandle, Threads};
+use std::thread::{Builder, Promise, PromisedHandle, Threads};
+
+// The bytes of a server thread's stack. The system's own choice, often 8 MiB, uses up a limit of
+// the address space.
+const STACK: usize = 1 << 20;
 
 /// The promise of a thread that may end in any way.
 #[derive(Clone, Copy, Debug, Drop)]
@@ -49,22 +53,21 @@ fn start_one<C: Crew + Send + Sync + 'static, R: System>(
 ) -> Option<PromisedHandle<ThreadEnd, AnyEnd>> {
     let content = Arc::try_clone(content).ok()?;
     let theirs = rt.clone().ok()?;
-    let thread = thread::spawn_with(rt, AnyEnd, move || {
+    let builder = Builder::new().stack_size(STACK);
+    let thread = builder.spawn_with(rt, AnyEnd, move || {
         let site = Site::new(&content.replies, &content.aliases, pass);
         serve(&theirs, alloc, setup, site)
     });
     thread.ok()
 }
 
-/// Starts a server thread for each pass, with one of the setups. If a thread can't be started and
-/// `tells`, prints that once on the error stream of `rt`.
+/// Starts a server thread for each pass, with one of the setups.
 pub fn start_threads<C: Crew + Send + Sync + 'static, R: System>(
     rt: &R,
     alloc: Global,
     content: &Arc<Content>,
     setups: Vec<ThreadSetup>,
     passes: Vec<Pass<C>>,
-    tells: bool,
 ) -> Started<AnyEnd>
     ensures { StartsAll passes result }
 {
@@ -80,9 +83,6 @@ pub fn start_threads<C: Crew + Send + Sync + 'static, R: System>(
             Some(thread) => is_short |= threads.push(thread).is_err(),
             None => is_short = true,
         }
-    }
-    if is_short && tells {
-        let _ = rt.eprintln("hole: a server thread can't be started");
     }
     Started { threads, is_short }
 }

@@ -5,6 +5,7 @@ pub mod Places
 pub mod MenuLine
 pub mod Laws
 pub mod Menu
+pub mod EntryParts
 pub mod Request
 pub mod Rule
 pub mod Scope

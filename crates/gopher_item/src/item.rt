@@ -49,7 +49,7 @@ fn plain_field(bytes: &[u8]) -> Option<(&[u8], Option<&[u8]>)>
 }
 
 // The first four fields, if there are four and the line contains no CR and no NUL.
-fn four_fields(line: &[u8]) -> Option<(&[u8], &[u8], &[u8], &[u8])>
+pub(crate) fn four_fields(line: &[u8]) -> Option<(&[u8], &[u8], &[u8], &[u8])>
     ensures { FindsFourFields line.now result }
 {
     let (first, Some(rest)) = plain_field(line)? else {

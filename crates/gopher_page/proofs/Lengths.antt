@@ -1,17 +1,16 @@
 -- The lengths of the runs of words in byte order are their counts.
-use Rattle.std.proofs.Common.{◌≡◌, ℕ, ◌+◌, ◌-◌, ◌<◌, ◌≤◌, Bool, true, false, cond, ◌||◌, List, [], ◌∷◌, ◌++◌, length, map, drop, get_or, count_by, sum_by, refl, sym, ap, subst, ◌∙◌, add-zero, arith}
-use Rattle.std.proofs.lemmas.List.{append-nil, get_or-map, length-map, drop_more, drop_all}
+use Rattle.std.proofs.Common.{◌≡◌, ℕ, ◌+◌, ◌-◌, ◌<◌, ◌≤◌, Bool, true, false, cond, ◌||◌, List, [], ◌∷◌, length, map, drop, get_or, count_by, sum_by, refl, sym, ap, subst, ◌∙◌, add-zero, arith}
+use Rattle.std.proofs.lemmas.List.{drop_more}
 use Rattle.std.proofs.lemmas.List.Sums.{sum_by-cons}
 use Rattle.std.proofs.lemmas.List.Kept.{IsStrictlySortedBy-dedup}
 use Rattle.std.specs.List.{list_any, dedup_from, AllByRecursion}
 use Rattle.std.specs.List.Sorted.{IsStrictlySortedBy, IsSorted, IsPermutation}
 use Rattle.std.proofs.lemmas.List.Sorted.{sum_by-IsPermutation}
-use denote.Ref.{Bor}
 use Rattle.std.specs.declared.cmp.Ordering.{Ordering}
 use Rattle.std.specs.declared.cmp.Ordering.TheVariants.{Less, Equal, Greater}
 use Rattle.std.specs.Cmp.Lexicographic.{bytes_decides, nat_list_cmp_total, nat_list_eq_equiv, texts_ties}
 use Rattle.gopher_page.specs.Words.{same_word}
-use Rattle.gopher_page.specs.Counts.{counts_of, sorted_words, joined_run, run_lengths, run_values}
+use Rattle.gopher_page.specs.Counts.{counts_of, sorted_words, joined_run, run_lengths}
 use Rattle.gopher_page.specs.Packed.{AreCounts}
 use Rattle.gopher_page.proofs.SortedInserts.{flipped, all_after, sorted_inserts}
 use Rattle.gopher_page.proofs.AddedWords.{compare, equal_words, not_same, absent_along, with_values, positive_counts}
@@ -256,26 +255,3 @@ pub counted_sorted : (words sorted : List (List ℕ)) → IsPermutation words so
 counted_sorted words sorted moved order =
     sym (counted_in_order sorted sorted order (λ sought. refl))
     ∙ counted_in_order sorted words order (λ sought. sum_by-IsPermutation (λ word. cond (same_word sought word) 1 0) words sorted moved)
-
--- ---- runs that were found, and those from an index on
-
-module _ (found : List (Bor (List ℕ) × ℕ)) (i : ℕ) (within : i < length found) where
-  abbrev pub run : Bor (List ℕ) × ℕ
-  run = get_or found i (record { ref_ptr = (0, 0); now = [] }, 0)
-
-  abbrev pub rest : List (List ℕ × ℕ)
-  rest = drop (i + 1) (run_values found)
-
-  pub next_run : drop i (run_values found) ≡ (run.0.now, run.1) ∷ rest
-  next_run =
-      let value : Bor (List ℕ) × ℕ → List ℕ × ℕ = λ r. (r.0.now, r.1) in
-      let inside : i < length (run_values found) = omega (arith, within, length-map {B = List ℕ × ℕ} found (λ r. (r.0.now, r.1))) in
-      drop_more (run_values found) i ([], 0) inside ∙ ap (λ r. r ∷ rest) (get_or-map value found i (record { ref_ptr = (0, 0); now = [] }, 0) ([], 0) within)
-
-  pub next_count : sum_by (λ r. r.1) (drop i (run_values found)) ≡ run.1 + sum_by (λ r. r.1) rest
-  next_count = ap (sum_by (λ r. r.1)) next_run ∙ sum_by-cons {X = List ℕ × ℕ} (λ r. r.1) (run.0.now, run.1) rest
-
-pub no_more_runs : (found : List (Bor (List ℕ) × ℕ)) (i : ℕ) → length found ≤ i → (start : List (List ℕ × ℕ)) → start ≡ start ++ drop i (run_values found)
-no_more_runs found i past start =
-    let none : drop i (run_values found) ≡ [] = drop_all i (run_values found) (omega (arith, past, length-map {B = List ℕ × ℕ} found (λ r. (r.0.now, r.1)))) in
-    sym (append-nil start) ∙ ap (λ l. start ++ l) (sym none)

@@ -1,6 +1,5 @@
 -- The numbers of occurrences of words in a page.
 use Rattle.std.specs.Prelude.{◌≡◌, ℕ, ◌+◌, ◌-◌, ◌<◌, ◌≤◌, Bool, true, false, List, [], ◌∷◌, length, map, drop, nat_eq, slice_index_or, count_by, if◌then◌else◌}
-use Rattle.std.specs.Borrow.{Bor}
 use Rattle.std.specs.List.{fold, sum_by, starts_with}
 use Rattle.std.specs.List.Sorted.{IsStrictlySortedBy}
 use Rattle.std.specs.Ordering.{nat_cmp, is_lt}
@@ -26,10 +25,6 @@ joined_run word count (run ∷ runs) =
 abbrev pub run_lengths : List (List ℕ) → List (List ℕ × ℕ)
 run_lengths [] = []
 run_lengths (word ∷ words) = joined_run word 1 (run_lengths words)
-
--- runs that were found: their words with their lengths
-abbrev pub run_values : List (Bor (List ℕ) × ℕ) → List (List ℕ × ℕ)
-run_values runs = map (λ run. (run.0.now, run.1)) runs
 
 -- the words from `start` up to, not including, `end` are one run of equal words
 abbrev pub IsWordRun : List (List ℕ) → ℕ → ℕ → Type 0

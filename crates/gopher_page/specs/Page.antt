@@ -1,15 +1,19 @@
 -- A page: what a catalogue keeps of a reply.
-use Rattle.std.specs.Prelude.{◌≡◌, ℕ, ◌+◌, ◌*◌, Bool, List, [], length, take, map, filter, Option, None, ◌==◌, nat_lt, if◌then◌else◌}
+use Rattle.std.specs.Prelude.{◌≡◌, ℕ, ◌+◌, ◌*◌, Bool, List, [], ◌∷◌, length, take, map, filter, Option, None, MatchOption, ◌==◌, nat_lt, if◌then◌else◌}
 use Rattle.std.specs.List.{filter_map, find, flat_map, sum_by}
+use Rattle.std.specs.Int.{div_ceil}
 use Rattle.std.specs.Option.{option_map_or}
 use Rattle.std.specs.Arc.{arc_value}
+use Rattle.std.specs.Borrow.{Bor}
 use Rattle.std.specs.declared.sync.Arc.{Arc}
 use Rattle.gopher_item.specs.Special.{is_control}
 use Rattle.gopher_bytes.specs.Lines.{lines_of}
 use Rattle.gopher_item.specs.Place.{PlaceData, same_place, distinct}
 use Rattle.gopher_bytes.specs.Trim.{trim_spaces}
 use Rattle.gopher_item.specs.MenuLine.{place_named}
+use Rattle.gopher_item.specs.EntryParts.{entry_lent}
 use Rattle.gopher_item.specs.Menu.{entries_of}
+use Rattle.gopher_item.specs.declared.entry_parts.EntryParts.{EntryParts}
 use Rattle.gopher_item.specs.declared.menu.Entry.{Entry}
 use Rattle.gopher_item.specs.declared.menu.Entry.TheVariants.{Item, Odd}
 use Rattle.gopher_item.specs.Places.{names_len}
@@ -61,6 +65,14 @@ allowed_places scope entries = filter (allows scope) (filter_map place_of_entry 
 abbrev pub with_links : ScopeData → List PlaceData → List Entry → List PlaceData
 with_links scope links entries = insert_all same_place links (allowed_places scope entries)
 
+-- the links after one more entry
+abbrev pub with_entry : ScopeData → List PlaceData → EntryParts → List PlaceData
+with_entry scope links entry = with_links scope links (entry_lent entry ∷ [])
+
+-- the links after a menu
+abbrev pub with_menu : ScopeData → List PlaceData → List ℕ → List PlaceData
+with_menu scope links menu = with_links scope links (entries_of (lines_of menu))
+
 -- the links of a menu: each allowed place once, in the order of first mention
 abbrev pub menu_links : ScopeData → List ℕ → List PlaceData
 menu_links scope bytes = distinct (allowed_places scope (entries_of (lines_of bytes)))
@@ -75,6 +87,17 @@ line_of_entry (Odd bytes) = bytes
 -- the lines of a directory's page: one for each entry of its menu
 abbrev pub menu_page_lines : List ℕ → List (List ℕ)
 menu_page_lines bytes = map line_of_entry (entries_of (lines_of bytes))
+
+-- the lines of a reply's page: of a menu, or of a text
+abbrev pub page_lines : Bool → List ℕ → List (List ℕ)
+page_lines is_menu bytes = if is_menu then menu_page_lines bytes else text_lines bytes
+
+-- the page of a reply has a first line, and the lines of the bytes after it; if nothing is given,
+-- it has no lines
+abbrev pub CutsPageLine : Bool → List ℕ → Option (Bor (List ℕ) × Bor (List ℕ)) → Type 0
+CutsPageLine is_menu bytes given =
+    MatchOption given (page_lines is_menu bytes ≡ [])
+    (λ parts. page_lines is_menu bytes ≡ parts.0.now ∷ page_lines is_menu parts.1.now)
 
 -- ---- title
 
@@ -137,12 +160,16 @@ counts_size counts =
     words_bytes counts + ends_size (words_bytes counts) (length counts)
     + (length counts + 2 * len_to_last 256 (map (λ entry. entry.1) counts))
 
--- the words of a page: the page and the index contain them, and the index has 11 bytes more for
--- each; the index doesn't copy the words of a large page
+-- the postings of these words in an index: a posting counts at most 255 occurrences
+abbrev pub postings_len : List (List ℕ × ℕ) → ℕ
+postings_len counts = sum_by (λ entry. div_ceil entry.1 255) counts
+
+-- the words of a page: the page and the index contain them, and the index has 8 bytes more for each
+-- word and 3 for each posting; it doesn't copy the words of a large page
 abbrev pub words_size : PageData → ℕ
 words_size page =
     if is_large page then counts_size page.counts
-    else 2 * counts_size page.counts + 11 * length page.counts
+    else 2 * counts_size page.counts + (8 * length page.counts + 3 * postings_len page.counts)
 
 -- links: the page and the list of known places contain their selectors and hosts, and have 176
 -- bytes more for each link

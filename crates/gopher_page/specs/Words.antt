@@ -6,10 +6,6 @@ use Rattle.std.specs.Cmp.Lexicographic.{pointwise}
 use Rattle.gopher_bytes.specs.Case.{lower_case}
 use Rattle.gopher_page.specs.declared.word.TheConstants.{MAX_WORD}
 
--- the bytes of each of these lines or words
-abbrev pub texts : List (Bor (List ℕ)) → List (List ℕ)
-texts parts = map (λ part. part.now) parts
-
 -- the lines as one text, each followed by an LF (10)
 abbrev pub joined_lines : List (List ℕ) → List ℕ
 joined_lines lines = flat_map (λ line. line ++ 10 ∷ []) lines

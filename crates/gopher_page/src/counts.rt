@@ -1,15 +1,16 @@
 //! `Counts`: the words of a page with their counts, packed, and the count of a word or prefix;
 //! `EachCount`: an iterator over them.
 
-ghost use Rattle.std.specs.Prelude.{◌≡◌, ◌<◌, ◌≤◌, List, Some, length, slice_get, IfOk};
+ghost use Rattle.std.specs.Prelude.{◌≡◌, ◌<◌, ◌≤◌, List, Some, [], length, slice_get, IfOk, OnOk};
+ghost use Rattle.std.specs.List.{zip};
 ghost use Rattle.std.specs.Iterator.{YieldsFirstBy, item_count};
 ghost use Rattle.std.specs.List.Sorted.{IsSorted};
 ghost use Rattle.std.specs.Ordering.{nat_cmp};
 ghost use Rattle.std.specs.Cmp.Lexicographic.{slice_cmp};
 ghost use Rattle.gopher_item.specs.Places.{IsSum};
-ghost use Rattle.gopher_page.specs.Counts.{count_meant, counts_of, IsWordRun, run_lengths, run_values};
+ghost use Rattle.gopher_page.specs.Counts.{count_meant, counts_of, IsWordRun, run_lengths};
 ghost use Rattle.gopher_page.specs.Packed.{AreCounts};
-ghost use Rattle.gopher_page.specs.Page.{counts_size, ends_size, words_bytes};
+ghost use Rattle.gopher_page.specs.Page.{counts_size, ends_size, postings_len, words_bytes};
 
 use crate::numbered::Numbered;
 use crate::repeats::Repeats;
@@ -19,6 +20,9 @@ use gopher_item::NoMemory;
 use gopher_text::MAX_REPLY;
 use std::alloc::Global;
 use std::marker::Model;
+
+// The most occurrences that a posting of an index counts.
+const MAX_COUNT: u32 = 255;
 
 /// The distinct words of a page in byte order, each with its number of occurrences.
 ///
@@ -72,25 +76,38 @@ fn end_of_run(words: &[Numbered<'_>], start: usize) -> usize
     end
 }
 
-// The runs of equal words, each as its word and its length, and the number of bytes of these words.
-fn runs_of<'a>(
-    alloc: Global,
-    words: &[Numbered<'a>],
-) -> Result<(Vec<(&'a [u8], u32)>, usize), NoMemory>
-    requires { length words.now ≤ MAX_REPLY }
-    ensures { IfOk result (λ found. run_values found.0.items ≡ run_lengths words.now) }
-{
-    let mut runs = Vec::with_capacity(alloc, words.len())?;
-    let mut size = 0_usize;
+// The number of distinct words, and of the bytes of these words.
+fn sizes_of(words: &[Numbered<'_>]) -> (usize, usize) {
+    let (mut count, mut size) = (0_usize, 0_usize);
     let mut start = 0;
     while start < words.len() {
-        let word = words[start].word();
+        count = count.saturating_add(1);
+        size = size.saturating_add(words[start].word().len());
+        start = end_of_run(words, start);
+    }
+    (count, size)
+}
+
+// Appends each distinct word, and its number of occurrences, to no words and no counts.
+fn push_runs(
+    words: &[Numbered<'_>],
+    distinct: &mut ByteStrings,
+    counts: &mut Repeats,
+) -> Result<(), NoMemory>
+    requires few { length words.now ≤ MAX_REPLY }
+    requires words { distinct.old ≡ [] }
+    requires counts { counts.old ≡ [] }
+    ensures runs { OnOk result (zip distinct.new counts.new ≡ run_lengths words.now) }
+    ensures same { OnOk result (length counts.new ≡ length distinct.new) }
+{
+    let mut start = 0;
+    while start < words.len() {
         let end = end_of_run(words, start);
-        runs.push((word, (end - start) as u32))?;
-        size = size.saturating_add(word.len());
+        distinct.push(words[start].word())?;
+        counts.push((end - start) as u32)?;
         start = end;
     }
-    Ok((runs, size))
+    Ok(())
 }
 
 impl Counts {
@@ -101,15 +118,12 @@ impl Counts {
         requires few { length words.now ≤ MAX_REPLY }
         ensures { IfOk result (λ counts. counts ≡ counts_of words.now) }
     {
-        let (runs, size) = runs_of(alloc, words)?;
+        let (count, size) = sizes_of(words);
         // Lists of this size need no growth: growing and then shrinking them would leave fragments
         // too small to use again.
-        let mut distinct = ByteStrings::with_capacity(alloc, runs.len(), size)?;
-        let mut counts = Repeats::with_capacity(alloc, runs.len())?;
-        for (word, count) in &runs {
-            distinct.push(word)?;
-            counts.push(*count)?;
-        }
+        let mut distinct = ByteStrings::with_capacity(alloc, count, size)?;
+        let mut counts = Repeats::with_capacity(alloc, count)?;
+        push_runs(words, &mut distinct, &mut counts)?;
         distinct.shrink_to_fit();
         counts.shrink_to_fit();
         Ok(Counts {
@@ -142,6 +156,18 @@ impl Counts {
         let ends = size_of_ends(bytes, self.len());
         let tables = ends.saturating_add(self.counts.size());
         bytes.saturating_add(tables)
+    }
+
+    /// Returns how many postings an index has for the words, each of which counts at most 255
+    /// occurrences; at most `usize::MAX`.
+    pub(crate) fn postings_len(&self) -> usize
+        ensures { IsSum (postings_len self.now) result }
+    {
+        let mut postings = 0_usize;
+        for (_, count) in self {
+            postings = postings.saturating_add(count.div_ceil(MAX_COUNT) as usize);
+        }
+        postings
     }
 
     /// Returns the word at `index`, which is below `len`, and its count.

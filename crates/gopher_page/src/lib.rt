@@ -26,7 +26,7 @@ mod word;
 pub use counts::{Counts, EachCount};
 pub use fault::QueryFault;
 pub use numbered::Numbered;
-pub use page::Page;
+pub use page::{BYTES_WHILE_MADE, Page};
 pub use query::{Operator, Query, Term};
 pub use ranking::push_page;
 pub use search::range_meant;

@@ -1,22 +1,22 @@
-//! The links of a menu: `links_of_entries`.
+//! The links of a menu: `links_of_menu`.
 
-ghost use Rattle.std.specs.Prelude.{◌≡◌, [], ◌∷◌, IfOk, OnOk};
-ghost use Rattle.gopher_item.specs.Place.{distinct};
-ghost use Rattle.gopher_page.specs.Page.{allowed_places, place_of_entry, with_links};
+ghost use Rattle.std.specs.Prelude.{◌≡◌, IfOk, OnOk};
+ghost use Rattle.gopher_item.specs.EntryParts.{entry_lent};
+ghost use Rattle.gopher_page.specs.Page.{menu_links, place_of_entry, with_entry, with_menu};
 
-use gopher_item::{Entry, ItemFault, NoMemory, Place, Places, Scope};
+use gopher_item::{EntryParts, ItemFault, NoMemory, Place, Places, Scope, first_entry};
 use indexmap::IndexSet;
 use indexmap::set::IntoIter;
 use std::alloc::Global;
 
 // The place that an entry names, or `None` if it is an odd line or names no valid place.
-fn place_of_entry(alloc: Global, entry: &Entry) -> Result<Option<Place>, NoMemory>
-    ensures { IfOk result (λ named. named ≡ place_of_entry entry.now) }
+fn place_of_entry(alloc: Global, entry: &EntryParts<'_>) -> Result<Option<Place>, NoMemory>
+    ensures { IfOk result (λ named. named ≡ place_of_entry (entry_lent entry.now)) }
 {
-    let Entry::Item(line) = entry else {
+    let EntryParts::Item(item) = entry else {
         return Ok(None);
     };
-    match line.place(alloc) {
+    match item.place(alloc) {
         Ok(place) => Ok(Some(place)),
         Err(ItemFault::NoMemory) => Err(NoMemory),
         Err(_) => Ok(None),
@@ -27,10 +27,10 @@ fn place_of_entry(alloc: Global, entry: &Entry) -> Result<Option<Place>, NoMemor
 fn add_link(
     alloc: Global,
     scope: &Scope,
-    entry: &Entry,
+    entry: &EntryParts<'_>,
     links: &mut IndexSet<Place>,
 ) -> Result<(), NoMemory>
-    ensures { OnOk result (links.new.keys ≡ with_links scope.now links.old.keys (entry.now ∷ [])) }
+    ensures { OnOk result (links.new.keys ≡ with_entry scope.now links.old.keys entry.now) }
 {
     if let Some(place) = place_of_entry(alloc, entry)?
         && scope.allows(&place)
@@ -40,17 +40,19 @@ fn add_link(
     Ok(())
 }
 
-// Adds the links of all entries to those that are there.
+// Adds the links of a menu to those that are there.
 fn add_links(
     alloc: Global,
     scope: &Scope,
-    entries: &[Entry],
+    menu: &[u8],
     links: &mut IndexSet<Place>,
 ) -> Result<(), NoMemory>
-    ensures { OnOk result (links.new.keys ≡ with_links scope.now links.old.keys entries.now) }
+    ensures { OnOk result (links.new.keys ≡ with_menu scope.now links.old.keys menu.now) }
 {
-    for entry in entries {
-        add_link(alloc, scope, entry, links)?;
+    let mut rest = menu;
+    while let Some((entry, after)) = first_entry(rest) {
+        add_link(alloc, scope, &entry, links)?;
+        rest = after;
     }
     Ok(())
 }
@@ -67,12 +69,11 @@ fn packed(alloc: Global, places: &mut IntoIter<Place>) -> Result<Places, NoMemor
     Ok(links)
 }
 
-/// Returns the allowed places that the entries of a menu name, each once, in the order of first
-/// mention.
-pub fn links_of_entries(alloc: Global, scope: &Scope, entries: &[Entry]) -> Result<Places, NoMemory>
-    ensures { IfOk result (λ links. links ≡ distinct (allowed_places scope.now entries.now)) }
+/// Returns the allowed places that a menu names, each once, in the order of first mention.
+pub fn links_of_menu(alloc: Global, scope: &Scope, menu: &[u8]) -> Result<Places, NoMemory>
+    ensures { IfOk result (λ links. links ≡ menu_links scope.now menu.now) }
 {
     let mut places = IndexSet::new(alloc);
-    add_links(alloc, scope, entries, &mut places)?;
+    add_links(alloc, scope, menu, &mut places)?;
     packed(alloc, &mut places.into_iter())
 }

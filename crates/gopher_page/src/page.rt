@@ -4,16 +4,15 @@ ghost use Rattle.std.specs.Prelude.{◌≡◌, ◌≤◌, false, length, IfOk};
 ghost use Rattle.std.specs.Arc.{arc_value};
 ghost use Rattle.std.specs.List.{sum_by};
 ghost use Rattle.gopher_item.specs.Places.{IsSum, places_lent};
-ghost use Rattle.gopher_page.specs.Words.{texts};
 ghost use Rattle.gopher_page.specs.Counts.{count_meant};
 ghost use Rattle.gopher_page.specs.Page.{is_large, links_kept, links_size, menu_page, page_of, page_size, text_page, words_size, IsOfLines};
 
 use crate::counting::count_words;
 use crate::counts::Counts;
-use crate::line::{entry_lines, text_lines};
-use crate::links::links_of_entries;
+use crate::line::PageLines;
+use crate::links::links_of_menu;
 use crate::title::title_of;
-use gopher_item::{ByteString, EachPlace, NoMemory, Place, Places, Scope, read_menu};
+use gopher_item::{ByteString, EachPlace, NoMemory, Place, Places, Scope};
 use gopher_text::MAX_REPLY;
 use std::alloc::Global;
 use std::marker::Model;
@@ -66,6 +65,15 @@ impl Model for Page {
     ghost view = { λ p. arc_value p.parts };
 }
 
+/// At most how many bytes of memory are taken for each byte of a reply while its page is made. A
+/// short reply takes up to 16,384 bytes more.
+///
+/// Four of them are for the buffer that the reply was read into. A menu of nothing but links of 8
+/// bytes takes the most: for each link 198 bytes in the set of places when that grows, and 64 for
+/// its host and its selector. A text of nothing but one-byte words takes 19. A reply of 1,048,576
+/// bytes (`MAX_REPLY`) takes at most 22 MiB: it has no room for that number of links of 8 bytes.
+pub const BYTES_WHILE_MADE: usize = 40;
+
 // The most bytes of memory that a page takes beside its words, its title and its links: its place,
 // its events, and its part of the lists of a catalogue.
 const PAGE_SIZE: usize = 512;
@@ -77,9 +85,12 @@ const LARGE: usize = 131_072;
 // it, and 160 as a known place.
 const LINK_SIZE: usize = 176;
 
-// The most bytes that a word of a page takes in a segment of an index, beside the word: its end,
-// the end of its posting list, and the posting.
-const POSTING_SIZE: usize = 11;
+// The most bytes that a word of a page takes in a segment of an index, beside the word and its
+// postings: its end, and the end of its posting list.
+const WORD_SIZE: usize = 8;
+
+// The bytes of a posting: a page's number and a count.
+const POSTING_SIZE: usize = 3;
 
 // The most bytes that links take in a catalogue.
 fn size_of_links(links: &Places) -> usize
@@ -93,12 +104,12 @@ fn size_of_links(links: &Places) -> usize
 fn page_of_lines(
     alloc: Global,
     place: &Arc<Place>,
-    lines: &[&[u8]],
+    lines: &PageLines<'_>,
     links: Option<Arc<Places>>,
 ) -> Result<Page, NoMemory>
-    requires short { sum_by length (texts lines.now) ≤ MAX_REPLY }
+    requires short { sum_by length lines.now ≤ MAX_REPLY }
     requires few { length (links_kept links) ≤ MAX_REPLY }
-    ensures { IfOk result (IsOfLines (arc_value place.now) (texts lines.now) (links_kept links)) }
+    ensures { IfOk result (IsOfLines (arc_value place.now) lines.now (links_kept links)) }
 {
     let counts = count_words(alloc, lines)?;
     let parts = Parts {
@@ -121,18 +132,15 @@ fn page_of_menu(
     requires small { length bytes.now ≤ MAX_REPLY }
     ensures { IfOk result (λ page. page ≡ menu_page scope.now (arc_value place.now) bytes.now) }
 {
-    let menu = read_menu(alloc, bytes)?;
-    let links = Arc::new(alloc, links_of_entries(alloc, scope, &menu.entries)?)?;
-    let lines = entry_lines(alloc, &menu.entries)?;
-    page_of_lines(alloc, place, &lines, Some(links))
+    let links = Arc::new(alloc, links_of_menu(alloc, scope, bytes)?)?;
+    page_of_lines(alloc, place, &PageLines::of_menu(bytes), Some(links))
 }
 
 fn page_of_text(alloc: Global, place: &Arc<Place>, bytes: &[u8]) -> Result<Page, NoMemory>
     requires small { length bytes.now ≤ MAX_REPLY }
     ensures { IfOk result (λ page. page ≡ text_page (arc_value place.now) bytes.now) }
 {
-    let lines = text_lines(alloc, bytes)?;
-    page_of_lines(alloc, place, &lines, None)
+    page_of_lines(alloc, place, &PageLines::of_text(bytes), None)
 }
 
 impl Page {
@@ -249,12 +257,15 @@ impl Page {
     fn size_of_words(&self) -> usize
         ensures { IsSum (words_size self.now) result }
     {
-        let words = self.parts.counts.size();
+        let counts = &self.parts.counts;
+        let words = counts.size();
         if self.is_large() {
             return words;
         }
-        let postings = self.parts.counts.len().saturating_mul(POSTING_SIZE);
-        words.saturating_mul(2).saturating_add(postings)
+        let ends = counts.len().saturating_mul(WORD_SIZE);
+        let postings = counts.postings_len().saturating_mul(POSTING_SIZE);
+        let table = ends.saturating_add(postings);
+        words.saturating_mul(2).saturating_add(table)
     }
 
     /// Returns how often `word` occurs in the page.

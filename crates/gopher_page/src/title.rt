@@ -3,9 +3,9 @@
 ghost use Rattle.std.specs.Prelude.{◌≡◌, take, IfOk};
 ghost use Rattle.std.specs.List.{find};
 ghost use Rattle.std.specs.Option.{option_map};
-ghost use Rattle.gopher_page.specs.Words.{texts};
 ghost use Rattle.gopher_page.specs.Page.{plain_byte, title_text, has_word, place_title, title_of};
 
+use crate::line::PageLines;
 use crate::word::next_token;
 use gopher_bytes::trim_spaces;
 use gopher_item::{ByteString, NoMemory, Place, is_control};
@@ -39,10 +39,10 @@ fn has_word(line: &[u8]) -> bool
     next_token(line).is_some()
 }
 
-fn first_with_word<'a>(lines: &[&'a [u8]]) -> Option<&'a [u8]>
-    ensures { option_map (λ line. line.now) result ≡ find has_word (texts lines.now) }
+fn first_with_word<'a>(lines: &PageLines<'a>) -> Option<&'a [u8]>
+    ensures { option_map (λ line. line.now) result ≡ find has_word lines.now }
 {
-    for line in lines {
+    for line in lines.clone() {
         if has_word(line) {
             return Some(line);
         }
@@ -62,8 +62,8 @@ fn place_title(alloc: Global, place: &Place) -> Result<ByteString, NoMemory>
 }
 
 /// Returns the title of the page of a place with these lines.
-pub fn title_of(alloc: Global, place: &Place, lines: &[&[u8]]) -> Result<ByteString, NoMemory>
-    ensures { IfOk result (λ title. title ≡ title_of place.now (texts lines.now)) }
+pub fn title_of(alloc: Global, place: &Place, lines: &PageLines<'_>) -> Result<ByteString, NoMemory>
+    ensures { IfOk result (λ title. title ≡ title_of place.now lines.now) }
 {
     match first_with_word(lines) {
         Some(line) => title_text(alloc, line),

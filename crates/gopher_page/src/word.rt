@@ -69,6 +69,17 @@ pub fn next_token(text: &[u8]) -> Option<(&[u8], bool, &[u8])>
     }
 }
 
+/// Returns at least how many words a text has.
+pub fn runs_in(text: &[u8]) -> usize {
+    let (mut runs, mut is_inside) = (0_usize, false);
+    for byte in text {
+        let is_word = is_word_byte(*byte);
+        runs = runs.saturating_add(usize::from(is_word && !is_inside));
+        is_inside = is_word;
+    }
+    runs
+}
+
 /// Returns the words of the bytes in order, in lower case. A word is a run of 1 to 40 ASCII
 /// letters, ASCII digits and bytes of 128 or more.
 pub fn words(alloc: Global, bytes: &[u8]) -> Result<Vec<ByteString>, NoMemory>

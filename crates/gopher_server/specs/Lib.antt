@@ -9,3 +9,5 @@ pub mod Waits
 pub mod Unread
 pub mod Clients
 pub mod SendBuffer
+pub mod Messages
+pub mod Closings

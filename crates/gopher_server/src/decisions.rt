@@ -1,7 +1,8 @@
 //! What a server thread decides: which connection is closed for room, which are past their
 //! deadline, whose search is next, how long it may wait for events, when it accepts and when it
 //! wakes the other threads, how many connections the server may hold, how many of one network, how
-//! many it still accepts, and how much of a request the system still holds.
+//! many it still accepts, how much of a request the system still holds, and when it says how many
+//! connections it closed for room.
 //!
 //! No socket, thread or clock appears here: a connection is whatever the server keeps, and times
 //! are numbers. The server uses these contracts: a key returns the connection that was taken in at
@@ -15,6 +16,7 @@
 
 mod accepting;
 mod clients;
+mod closings;
 mod held;
 mod places;
 mod unread;
@@ -25,6 +27,7 @@ pub use accepting::{
     listeners_at,
 };
 pub use clients::{Clients, network_of};
+pub use closings::Closings;
 pub use held::Held;
 pub use places::{Places, max_of_network, max_places};
 pub use unread::unread_after;

@@ -23,6 +23,7 @@ mod acceptor;
 mod connection;
 mod decisions;
 mod logging;
+mod messages;
 mod request_reader;
 mod send_buffer;
 mod server;
@@ -32,6 +33,7 @@ mod waiting;
 
 pub use acceptor::MAX_LISTENERS;
 pub use logging::{Log, LogQueue, OpenLog, end_log, start_log};
+pub use messages::{MessageStream, Messages, start_messages};
 pub use send_buffer::limit_send_buffers;
 pub use server::{ThreadEnd, serve};
 pub use setup::{ServerSetup, ThreadSetup, max_connections, set_up};

@@ -9,9 +9,11 @@ ghost use Rattle.gopher_server.specs.declared.server.ThreadEnd.TheVariants.{Fail
 use crate::acceptor::Acceptor;
 use crate::connection::{Answering, BUFFER_BYTES, Connection};
 use crate::decisions::{
-    AcceptEvent, AcceptFailure, Held, WAKER, failure_of, listeners_at, longest_wait, network_of,
+    AcceptEvent, AcceptFailure, Closings, Held, WAKER, failure_of, listeners_at, longest_wait,
+    network_of,
 };
 use crate::logging::ThreadLog;
+use crate::messages::{MessageStream, Messages};
 use crate::send_buffer::limit_send_buffer;
 use crate::setup::ThreadSetup;
 use crate::thread_clock::ThreadClock;
@@ -21,7 +23,7 @@ use mio::{Events, Poll};
 use std::alloc::Global;
 use std::io::{self, Eprint, ErrorKind};
 use std::net::SocketAddr;
-use std::sync::Wait;
+use std::sync::{Arc, Wait};
 use std::time::{Clock, Duration, Instant};
 
 // The most connections that are accepted at a listener before other events are handled. Those left
@@ -52,21 +54,48 @@ pub(crate) struct Server<'a, A: Answers<'a> + Drop> {
     pub(crate) log: ThreadLog,
     pub(crate) clock: ThreadClock,
     pub(crate) end: ThreadEnd,
-    /// Whether it prints on the error stream why it fails.
-    pub(crate) tells: bool,
-    // Whether it prints that a client got no whole reply.
+    /// The connections that it closed for room.
+    pub(crate) closings: Closings,
+    // Whether it says on the error stream why it fails.
+    tells: bool,
+    // Whether it says that a client got no whole reply.
     tells_shortage: bool,
-}
-
-// If `tells`, prints on the error stream what failed, and the system's error.
-fn tell(rt: &impl Eprint, what: &str, error: io::Error, tells: bool) {
-    if tells {
-        let _ = rt.eprint(what);
-        let _ = rt.eprintln(error);
-    }
+    messages: Option<Arc<Messages>>,
 }
 
 impl<'a, A: Answers<'a> + Drop> Server<'a, A> {
+    // ---- messages
+
+    // If it tells what fails, says what failed, and the system's error.
+    fn tell<R: Wait + Eprint>(&self, rt: &R, what: &str, error: io::Error) {
+        if self.tells {
+            let stream = MessageStream::new(rt, &self.messages);
+            let _ = eprintln!(stream; "{what}{error}");
+        }
+    }
+
+    // Says once that a client got no whole reply.
+    fn tell_shortage<R: Wait + Eprint>(&mut self, rt: &R) {
+        if self.answering.is_short && self.tells_shortage {
+            self.tells_shortage = false;
+            let stream = MessageStream::new(rt, &self.messages);
+            let _ = stream.eprintln("hole: a client got no whole reply: out of memory");
+        }
+    }
+
+    // If it tells what fails, says how many connections were closed for room: at once, and then at
+    // most once in a minute.
+    fn tell_closings<R: Wait + Clock + Eprint>(&mut self, rt: &R) {
+        if !self.tells || !self.closings.are_untold() {
+            return;
+        }
+        let now = self.clock.now(rt);
+        if let Some(count) = self.closings.take_due(now) {
+            let stream = MessageStream::new(rt, &self.messages);
+            let _ = eprintln!(stream; "hole: connections closed for room: {count}");
+        }
+    }
+
     // ---- accepting
 
     // Accepts the connections that wait at a listener, or the first of them: the system reports the
@@ -119,14 +148,14 @@ impl<'a, A: Answers<'a> + Drop> Server<'a, A> {
             }
             AcceptFailure::IsShort => {
                 if let Some(key) = self.connections.victim() {
+                    self.closings.add();
                     self.close(rt, key);
                     return failure.is_shortage();
                 }
             }
             AcceptFailure::StaysShort | AcceptFailure::AreLost => {}
             AcceptFailure::IsBroken => {
-                let what = "hole: connections can't be accepted: ";
-                tell(rt, what, error, self.tells);
+                self.tell(rt, "hole: connections can't be accepted: ", error);
                 self.fail();
                 return false;
             }
@@ -260,12 +289,10 @@ impl<'a, A: Answers<'a> + Drop> Server<'a, A> {
             self.handle_event(rt, event.token().0, is_gone);
         }
         self.search(rt);
-        if self.answering.is_short && self.tells_shortage {
-            self.tells_shortage = false;
-            let _ = rt.eprintln("hole: a client got no whole reply: out of memory");
-        }
         self.end_lingering(rt);
         self.close_excess(rt);
+        self.tell_shortage(rt);
+        self.tell_closings(rt);
         let now = self.time_if(rt, !self.acceptor.state.is_watching());
         let held = self.connections.len() as u64;
         let round = AcceptEvent::Round(self.acceptor.shared.places.leaves_to_others(held));
@@ -287,8 +314,7 @@ impl<'a, A: Answers<'a> + Drop> Server<'a, A> {
                 break;
             }
             if let Err(error) = self.work(rt, events) {
-                let what = "hole: a server thread can't wait for clients: ";
-                tell(rt, what, error, self.tells);
+                self.tell(rt, "hole: a server thread can't wait for clients: ", error);
                 self.give_up(rt);
                 break;
             }
@@ -321,8 +347,8 @@ impl<'a, A: Answers<'a> + Drop> Server<'a, A> {
 }
 
 /// Serves in this thread: accepts connections and answers each. Returns when the quota is used up
-/// and no connection is left. If it fails before and the setup says so, it reports why on the error
-/// stream of `rt` at once.
+/// and no connection is left. If it fails before and the setup says so, it says why on the error
+/// stream.
 pub fn serve<'a, A: Answers<'a> + Drop, R: Wait + Clock + Eprint>(
     rt: &R,
     alloc: Global,
@@ -333,7 +359,8 @@ pub fn serve<'a, A: Answers<'a> + Drop, R: Wait + Clock + Eprint>(
     let mut events = setup.events;
     let (Ok(connections), Ok(clock)) = (Held::new(alloc), ThreadClock::new(rt)) else {
         if setup.tells {
-            let _ = rt.eprintln("hole: a server thread ends: out of memory");
+            let stream = MessageStream::new(rt, &setup.messages);
+            let _ = stream.eprintln("hole: a server thread ends: out of memory");
         }
         return ThreadEnd::LacksMemory;
     };
@@ -351,8 +378,10 @@ pub fn serve<'a, A: Answers<'a> + Drop, R: Wait + Clock + Eprint>(
         log: setup.log,
         clock,
         end: ThreadEnd::Served,
+        closings: Closings::new(),
         tells: setup.tells,
         tells_shortage: setup.tells,
+        messages: setup.messages,
     };
     server.work_to_end(rt, &mut events)
 }

@@ -3,6 +3,7 @@
 use crate::acceptor::{ServerShared, watch};
 use crate::decisions::{Clients, Places, WAKER, max_of_network, max_places};
 use crate::logging::{LogQueue, ThreadLog};
+use crate::messages::Messages;
 use gopher_item::NoMemory;
 use mio::net::TcpListener;
 use mio::{Events, Poll, Token, Waker};
@@ -36,8 +37,11 @@ pub struct ServerSetup {
     pub clients_per_address: Option<u64>,
     /// Where they hand on the lines of the log, if requests are logged.
     pub log: Option<Arc<LogQueue>>,
-    /// Whether they print on the error stream why they fail.
+    /// Whether they say on the error stream why they fail, and how many connections they close for
+    /// room.
     pub tells: bool,
+    /// Where their messages go; to the error stream at once if `None`.
+    pub messages: Option<Arc<Messages>>,
 }
 
 /// The system resources of a server thread.
@@ -51,6 +55,7 @@ pub struct ThreadSetup {
     /// Memory for small requests, set aside.
     pub(crate) blocks: Vec<Vec<u8>>,
     pub(crate) tells: bool,
+    pub(crate) messages: Option<Arc<Messages>>,
 }
 
 // The limit of open files of the process, 0 if it isn't known.
@@ -107,24 +112,28 @@ fn small_blocks(alloc: Global) -> Result<Vec<Vec<u8>>, NoMemory> {
     Ok(blocks)
 }
 
-// The resources of the thread with this poll.
-fn setup_with(
-    alloc: Global,
-    poll: Poll,
-    listeners: &Arc<Vec<TcpListener>>,
-    shared: &Arc<ServerShared>,
-    log: &Option<Arc<LogQueue>>,
+// What the threads of a server share.
+#[derive(Drop)]
+struct Common {
+    listeners: Arc<Vec<TcpListener>>,
+    shared: Arc<ServerShared>,
+    log: Option<Arc<LogQueue>>,
+    messages: Option<Arc<Messages>>,
     tells: bool,
-) -> Result<ThreadSetup, NoMemory> {
-    let queue = log.as_ref().map(Arc::try_clone).transpose()?;
+}
+
+// The resources of the thread with this poll.
+fn setup_with(alloc: Global, poll: Poll, common: &Common) -> Result<ThreadSetup, NoMemory> {
+    let queue = common.log.as_ref().map(Arc::try_clone).transpose()?;
     Ok(ThreadSetup {
         poll,
         events: Events::with_capacity(alloc, MAX_EVENTS)?,
-        listeners: Arc::try_clone(listeners)?,
-        shared: Arc::try_clone(shared)?,
+        listeners: Arc::try_clone(&common.listeners)?,
+        shared: Arc::try_clone(&common.shared)?,
         log: ThreadLog::new(alloc, queue),
         blocks: small_blocks(alloc)?,
-        tells,
+        tells: common.tells,
+        messages: common.messages.as_ref().map(Arc::try_clone).transpose()?,
     })
 }
 
@@ -141,7 +150,6 @@ pub fn set_up<R: Net>(
     threads: usize,
 ) -> Result<Vec<ThreadSetup>, NoMemory> {
     let (polls, wakers) = polls_and_wakers(rt, alloc, threads)?;
-    let listeners = Arc::new(alloc, server.listeners)?;
     let places = Places::new(server.places, server.requests);
     let most = max_of_network(server.places, server.clients_per_address);
     let clients = Mutex::new(Clients::new(alloc, most));
@@ -150,11 +158,17 @@ pub fn set_up<R: Net>(
         clients,
         wakers,
     };
-    let shared = Arc::new(alloc, shared)?;
+    let common = Common {
+        listeners: Arc::new(alloc, server.listeners)?,
+        shared: Arc::new(alloc, shared)?,
+        log: server.log,
+        messages: server.messages,
+        tells: server.tells,
+    };
     let mut setups = Vec::with_capacity(alloc, threads)?;
     for poll in polls {
-        let setup = setup_with(alloc, poll, &listeners, &shared, &server.log, server.tells)?;
-        if watch(&setup.poll, &listeners) {
+        let setup = setup_with(alloc, poll, &common)?;
+        if watch(&setup.poll, &common.listeners) {
             setups.push(setup)?;
         }
     }

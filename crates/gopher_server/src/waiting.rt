@@ -41,6 +41,7 @@ impl<'a, A: Answers<'a> + Drop> Server<'a, A> {
                 return;
             }
             if let Some(key) = self.connections.victim() {
+                self.closings.add();
                 let _closed = self.take_out(rt, key);
             }
         }

@@ -6,7 +6,8 @@ ghost use Rattle.gopher_crew.specs.Desk.{IsBlankOf};
 use crate::fetcher::{Fetcher, Host};
 use crate::indexes::steps_of;
 use crate::opening::{book_of, crawl, opened, push, query};
-use gopher_catalogue::Catalogue;
+use crate::workers::TWO_FILES;
+use gopher_catalogue::{Catalogue, Event};
 use gopher_crew::{self, Blank, Calls, Crew, Share, Stop, WorkEnd, work};
 use std::alloc::{AllocError, Global};
 use std::marker::Brand;
@@ -66,6 +67,62 @@ fn crawl_root<C: Crew + Send + Sync, R: Threads + Wait + Abort + AllocGlobal + S
 fn idle_workers_hear_of_each_end(rt: HostRuntime) {
     for _crawl in 0..CRAWLS {
         crawl_root::<Brand, _>(&rt, Blank::new());
+    }
+}
+
+// How many crawls with a limit of memory follow each other.
+const LIMITED_CRAWLS: u32 = 200;
+
+// A text whose page counts less than the text does while its page is made.
+const MOONS: &[u8] =
+    b"moon moon moon moon moon moon moon moon moon moon moon moon moon moon\r\n.\r\n";
+
+// What a crawl of a root with two such texts finds within a limit of memory, by two workers: how
+// many pages, and how many bytes they count.
+fn found_within<C: Crew + Send + Sync, R: Threads + Wait + Abort + AllocGlobal + Sync>(
+    rt: &R,
+    blank: Blank,
+    limit: u64,
+) -> (u64, u64)
+    requires blank { IsBlankOf C.name C.parts C.history blank }
+    requires begun { blank.begun ≡ [] }
+{
+    let mut host = Host::new(TWO_FILES);
+    host.first = MOONS;
+    host.rest = Some(MOONS);
+    let begun = crawl(rt.alloc(), b"h", 10, 1).expect(rt, "no crawl");
+    let (desk, _passes, shares) = opened::<C, R>(rt, false, blank, begun, 2);
+    desk.limit_memory(limit);
+    let ends = gopher_crew::crawl(rt, rt.alloc(), &desk, pairs(rt, &host, shares)).ok();
+    let _ends = ends.expect(rt, "no crawl");
+    let outcomes = desk.outcomes(rt);
+    let events = desk.record(rt, rt.alloc()).expect(rt, "a record");
+    let mut size = 0u64;
+    for event in &events {
+        if let Event::Found(_, page) = event {
+            size = size.saturating_add(page.size() as u64);
+        }
+    }
+    let past = desk.pages_past_limit();
+    assert!(rt; outcomes.status.done == 3 && outcomes.found.saturating_add(past) == 3);
+    (outcomes.found, size)
+}
+
+// What such a crawl finds, with a blank of its own.
+fn limited<R: Threads + Wait + Abort + AllocGlobal + Sync>(rt: &R, limit: u64) -> (u64, u64) {
+    found_within::<Brand, _>(rt, Blank::new(), limit)
+}
+
+// An unfinished page of a text counts more than all finished pages together, so it is made alone.
+#[test]
+fn pages_within_the_limit_are_found(rt: HostRuntime) {
+    let (found, size) = limited(&rt, u64::MAX);
+    assert!(rt; found == 3);
+    for _crawl in 0..LIMITED_CRAWLS {
+        let (found, same) = limited(&rt, size);
+        assert!(rt; found == 3 && same == size);
+        let (found, less) = limited(&rt, size.saturating_sub(1));
+        assert!(rt; found == 2 && less < size);
     }
 }
 

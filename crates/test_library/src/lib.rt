@@ -36,6 +36,8 @@ mod opening;
 #[cfg(test)]
 mod pages;
 #[cfg(test)]
+mod recorded;
+#[cfg(test)]
 mod requests;
 #[cfg(test)]
 mod settings;

@@ -1,7 +1,10 @@
 //! Menus, request lines and places as they are read, made, written and ordered. What other bytes are
 //! read as is in proofs/WorkedRows.antt.
 
-use gopher_item::{Entry, Home, MenuLine, Place, lines, read_menu, read_request, write_menu};
+use gopher_item::{
+    Entry, EntryParts, Home, MenuLine, Place, first_entry, lines, read_menu, read_request,
+    write_menu,
+};
 use std::alloc::Global;
 use std::cmp::Ordering;
 use std::slice;
@@ -45,6 +48,33 @@ fn a_line_without_fields_is_odd(rt: HostRuntime) {
         panic!(rt; "it has one odd line");
     };
     assert!(rt; odd.as_slice() == b"1Mo".as_slice() && !menu.ended);
+}
+
+// Whether a place is that of the worked menu.
+fn is_place_of_about(place: &Place) -> bool {
+    (place.kind(), place.port()) == (b'0', 70)
+        && place.selector() == b"Stuff:About us".as_slice()
+        && place.host() == b"rawbits.micro.umn.edu".as_slice()
+}
+
+#[test]
+fn the_entries_of_a_menu_are_read_one_at_a_time(rt: HostRuntime) {
+    let mut menu = Vec::from_slice(rt.alloc(), b"\r\n1Mo\r\n\r\n").expect(&rt, "memory");
+    menu.extend_from_slice(ABOUT).expect(&rt, "memory");
+    menu.extend_from_slice(b"1Mo\r\n").expect(&rt, "memory");
+    let Some((EntryParts::Odd(odd), rest)) = first_entry(&menu) else {
+        panic!(rt; "its first entry is an odd line");
+    };
+    assert!(rt; odd == b"1Mo".as_slice());
+    let Some((entry, rest)) = first_entry(rest) else {
+        panic!(rt; "it has a second entry");
+    };
+    let EntryParts::Item(item) = &entry else {
+        panic!(rt; "its second entry is an item");
+    };
+    let place = item.place(rt.alloc()).expect(&rt, "a place");
+    assert!(rt; item.display() == b"About internet Gopher".as_slice() && is_place_of_about(&place));
+    assert!(rt; first_entry(rest).is_none());
 }
 
 // Whether a line that begins with this byte is read as an item of this type, or as an odd line.

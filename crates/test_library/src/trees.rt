@@ -102,6 +102,30 @@ fn a_file_has_at_most_16_mebibytes(rt: HostRuntime) {
     assert!(rt; fault.map(TreeFault::code) == Some(23));
 }
 
+// The tree of one file of this size, whose reply is its bytes.
+fn tree_of_size(alloc: Global, size: usize) -> Option<Tree> {
+    let file = (
+        Vec::from_slice(alloc, b"a.gif").ok()?,
+        vec![in alloc; b'a'; size].ok()?,
+    );
+    let mut files = Vec::new(alloc);
+    files.push(file).ok()?;
+    Tree::of_files(alloc, files).ok()
+}
+
+#[test]
+fn the_largest_file_is_replied_whole(rt: HostRuntime) {
+    let tree = tree_of_size(rt.alloc(), 16_777_216).expect(&rt, "a tree");
+    let home = Home::new(rt.alloc(), b"localhost", 7070)
+        .ok()
+        .expect(&rt, "a home");
+    let reply = tree
+        .reply(rt.alloc(), b"/a.gif", &home)
+        .ok()
+        .expect(&rt, "a reply");
+    assert!(rt; reply.len() == 16_777_216);
+}
+
 const FILES: Files = &[
     (b"a.txt", b".\nhi"),
     (b"docs/b.gif", b"GIF\0.\n"),

@@ -11,10 +11,11 @@ ghost use Rattle.gopher_crew.specs.Admitted.{AllAdmitted, MayAdd};
 ghost use Rattle.gopher_crew.specs.Share.{CountsReply, Rises, RisesBy};
 ghost use Rattle.gopher_crew.specs.Publication.{CountsMissed, IsShown, IsPublishedOf};
 ghost use Rattle.gopher_crew.specs.Desk.{events_of, CountTheSame, HasAll, HasAllSeen};
-ghost use Rattle.gopher_crew.specs.Kept.{IsNoted, IsCall, rise_of, Later, Claims, Finds, Fails, RefusesFind, RefusesFailure, LetsClaim, IsStatusOf, IsStatusAfter, IsRecordAfter};
+ghost use Rattle.gopher_crew.specs.Kept.{IsNoted, IsCall, rise_of, Later, Claims, Finds, Fails, RefusesFind, RefusesFailure, LetsClaim, IsStatusOf, IsStatusAfter, AreOutcomesOf, AreOutcomesAfter, IsRecordAfter};
 
 use crate::crew::{Admits, Crew};
 use crate::desk::closing::join;
+use crate::desk::outcomes::Outcomes;
 use crate::desk::share::Share;
 use crate::publication::note::Note;
 use crate::publication::record_prefix::RecordPrefix;
@@ -317,6 +318,26 @@ impl<C: Crew, R: Wait + Drop, A: Admits> Kept<C, R, A> {
     {
         self.until_begins(opened);
         self.status()
+    }
+
+    /// Returns the number of places in each state and the number of pages found.
+    pub fn outcomes(&self) -> Outcomes
+        ensures { AreOutcomesOf result self.now.events }
+    {
+        Outcomes {
+            status: self.status(),
+            found: self.catalogue.index().len() as u64,
+        }
+    }
+
+    /// Returns the number of places in each state and the number of pages found, on a record that
+    /// begins with the events of this token.
+    pub(crate) fn outcomes_after(&self, opened: &RecordPrefix) -> Outcomes
+        requires { opened.now.history ≡ C.history }
+        ensures { AreOutcomesAfter opened.now.events result }
+    {
+        self.until_begins(opened);
+        self.outcomes()
     }
 
     /// Returns how much of the record is published, which begins with the events of this token.

@@ -25,8 +25,8 @@ pub trait Calls {
         ensures { result ≡ called self.now };
 }
 
-/// Fetches the replies of places. `R` is the runtime that it needs. A fetch over a network waits
-/// for its peer; one from memory needs no runtime.
+/// Fetches the replies of places, and is told what was recorded of each fetch. `R` is the runtime
+/// that it needs. A fetch over a network waits for its peer; one from memory needs no runtime.
 pub trait Fetch<R>: Calls {
     /// Fetches the reply of a place, at most `limit` bytes, which is at most 1,048,576 (`MAX_REPLY`
     /// of gopher_text). Returns the reason if there is none.
@@ -35,4 +35,13 @@ pub trait Fetch<R>: Calls {
         ensures within { IfOk result (λ bytes. vec_len bytes ≤ limit) }
         ensures calls { Self.called self.new ≡ one_more_call (Self.called self.old) }
         ensures fetched { Self.fetches self.old self.new place.now limit (outcome_of result) };
+
+    /// Is told what was recorded of a place with this number: `None` if its page was found, and
+    /// otherwise the reason why it failed. The reason can differ from that of the fetch: it is
+    /// `NoMemory` (5) if the page had no memory, or was past the limit of memory.
+    ///
+    /// A worker calls it once for each place that it found or failed, after the fetch, and holds no
+    /// lock of the desk. If nothing is recorded, because the number is no longer out, there is no
+    /// call.
+    fn recorded(&self, _rt: &R, _number: u32, _place: &Place, _failed: Option<Why>) {}
 }

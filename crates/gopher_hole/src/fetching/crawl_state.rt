@@ -4,7 +4,7 @@ ghost use Rattle.std.specs.Prelude.{◌≡◌};
 ghost use Rattle.gopher_hole.specs.Silences.{silent_at};
 
 use crate::arguments::Serving;
-use crate::failures::Failures;
+use crate::failures::{Failures, print_failure};
 use crate::fetching::cause::Cause;
 use crate::fetching::pauses::Pauses;
 use crate::fetching::silences::{EndNote, FetchEnd, MAX_TIMEOUTS, Permit, Silences};
@@ -12,15 +12,15 @@ use crate::progress::outs::Outs;
 use crate::progress::urls::HostPort;
 use gopher_catalogue::Why;
 use gopher_item::{Home, NoMemory, Place};
+use gopher_server::{MessageStream, Messages};
 use std::alloc::Global;
 use std::io::Eprint;
-use std::sync::{Mutex, Wait};
+use std::sync::{Arc, Mutex, Wait};
 use std::thread;
 use std::time::{Clock, Duration, Instant};
 
 /// What the workers of a crawl share: the places that failed and those that are being fetched, the
-/// hosts that time out, and when the next fetch of a host may begin.
-#[derive(Drop)]
+/// hosts that time out, when the next fetch of a host may begin, and where messages go.
 pub struct CrawlState {
     /// The places that failed.
     pub failures: Failures,
@@ -34,6 +34,23 @@ pub struct CrawlState {
     own: Place,
     silences: Mutex<Silences>,
     pauses: Mutex<Pauses>,
+    messages: Option<Arc<Messages>>,
+}
+
+// Written out: a derived one, and that of each part, is proved again at each way out of `serve`.
+impl Drop for CrawlState {
+    fn drop(self) {
+        let Self {
+            failures: _failures,
+            outs: _outs,
+            timeout: _timeout,
+            pause: _pause,
+            own: _own,
+            silences: _silences,
+            pauses: _pauses,
+            messages: _messages,
+        } = self;
+    }
 }
 
 /// Why a fetch failed: the reason of the event, and what stopped it.
@@ -91,7 +108,8 @@ fn print_given_up(rt: &impl Eprint, place: &Place) {
 }
 
 impl CrawlState {
-    /// The state of a crawl that hasn't begun.
+    /// The state of a crawl that hasn't begun. Its messages go to the error stream at once if there
+    /// are no `messages`.
     ///
     /// # Errors
     ///
@@ -101,6 +119,7 @@ impl CrawlState {
         home: &Home,
         tries: u32,
         serving: &Serving<'_>,
+        messages: Option<Arc<Messages>>,
     ) -> Result<CrawlState, NoMemory> {
         let Ok(own) = Place::new(alloc, b'1', b"", home.host(), home.port()) else {
             return Err(NoMemory);
@@ -113,7 +132,39 @@ impl CrawlState {
             own,
             silences: Mutex::new(Silences::new(alloc)),
             pauses: Mutex::new(Pauses::new(alloc)),
+            messages,
         })
+    }
+
+    /// Returns the stream for the messages of the server.
+    pub fn stream<'s, R>(&'s self, rt: &'s R) -> MessageStream<'s, R> {
+        MessageStream::new(rt, &self.messages)
+    }
+
+    /// Returns the messages of the server, for its threads. `None` also if memory runs out.
+    pub fn messages(&self) -> Option<Arc<Messages>> {
+        Arc::try_clone(self.messages.as_ref()?).ok()
+    }
+
+    /// Waits until the messages are printed, for a second at most.
+    pub fn end_messages<R: Wait + Clock>(&self, rt: &R) {
+        if let Some(messages) = &self.messages {
+            messages.end(rt);
+        }
+    }
+
+    /// Adds a failure of the place with this number, if failures are printed (`Failures::add`).
+    pub fn add_failure<R: Wait + Eprint>(
+        &self,
+        rt: &R,
+        number: u32,
+        place: &Place,
+        why: Why,
+        cause: Cause,
+    ) {
+        if self.failures.add(rt, number) {
+            print_failure(&self.stream(rt), place, why, cause);
+        }
     }
 
     // Waits until a fetch of a host may begin. Fails at once if the host is given up.
@@ -194,7 +245,7 @@ impl CrawlState {
     ) {
         let note = self.note_end(rt, host, begun, silent_at(failure));
         if note.is_some_and(|note| note.becomes_given_up) && self.failures.are_told {
-            print_given_up(rt, place);
+            print_given_up(&self.stream(rt), place);
         }
         let is_given_up = note.is_some_and(|note| note.is_given_up);
         if failure.cause == Cause::TimedOut && !is_given_up {

@@ -1,10 +1,9 @@
 //! `CrawlEnd`: what is printed when a crawl is over.
 
-ghost use Rattle.std.specs.Prelude.{◌≡◌, map, count_by};
-ghost use Rattle.gopher_catalogue.specs.EventOf.{event_data};
-ghost use Rattle.gopher_hole.specs.CrawlEnd.{is_find, is_over};
+ghost use Rattle.std.specs.Prelude.{◌≡◌};
+ghost use Rattle.gopher_hole.specs.CrawlEnd.{is_over};
 
-use gopher_catalogue::{Event, Status};
+use gopher_catalogue::Status;
 use std::fmt;
 
 /// How a crawl ended: its workers stopped, since no place was left or memory ran out.
@@ -18,19 +17,6 @@ pub struct CrawlEnd {
     pub stopped: u64,
     /// How many seconds the crawl took.
     pub seconds: u64,
-}
-
-/// Returns how many places were found by these events.
-pub fn found_places(events: &[Event]) -> u64
-    ensures { result ≡ count_by is_find (map event_data events.now) }
-{
-    let mut found = 0;
-    for event in events {
-        if let Event::Found(_, _) = event {
-            found += 1;
-        }
-    }
-    found
 }
 
 // Whether every known place has its last outcome.

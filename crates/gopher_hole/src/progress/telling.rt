@@ -1,10 +1,11 @@
 //! The lines that tell how far a crawl is, as values: what each says, and when it is due.
 
-ghost use Rattle.std.specs.Prelude.{◌≡◌, ◌≢◌, Some};
+ghost use Rattle.std.specs.Prelude.{◌≡◌, ◌≢◌, ◌-◌, Some};
 ghost use Rattle.std.specs.Bool.{MatchBool};
 ghost use Rattle.gopher_hole.specs.Progress.{is_limit_due, newly_stopped};
 
 use gopher_catalogue::Status;
+use gopher_crew::Outcomes;
 use std::fmt;
 
 /// The sizes of a crawl.
@@ -17,6 +18,19 @@ pub struct Sizes {
 }
 
 impl Sizes {
+    /// Returns the sizes with these outcomes: a place with its last outcome that isn't found failed
+    /// for good.
+    pub fn of(outcomes: Outcomes) -> Sizes
+        ensures status { result.status ≡ outcomes.status }
+        ensures failed { result.failed ≡ outcomes.status.done - outcomes.found }
+    {
+        let Outcomes { status, found } = outcomes;
+        Sizes {
+            status,
+            failed: u64::from(status.done).saturating_sub(found),
+        }
+    }
+
     /// Returns whether a line of these sizes is due after the last one, if there was one: it told
     /// other sizes.
     pub fn are_due(self, told: Option<Sizes>) -> bool

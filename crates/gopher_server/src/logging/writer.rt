@@ -11,10 +11,17 @@ use std::alloc::Global;
 use std::fs::{File, OpenOptions};
 use std::io::{self, Eprint, ErrorKind, Write};
 use std::os::fd::AsRawFd;
+use std::os::unix::fs::OpenOptionsExt;
 use std::str;
 use std::sync::{Arc, Wait};
-use std::thread::{self, JoinHandle, Threads};
+use std::thread::{self, Builder, JoinHandle, Threads};
 use std::time::{Clock, Duration};
+
+// Who may read and write a log that is made: it has the addresses of clients.
+const LOG_MODE: u32 = 0o640;
+
+// The bytes of the stack of the thread that writes.
+const STACK: usize = 262_144;
 
 // The path that stands for standard error.
 const STANDARD_ERROR: &str = "-";
@@ -39,9 +46,9 @@ struct LogWriter {
 /// A runtime that opens logs. It is a trait of its own, because what is known of a type parameter's
 /// `Files` isn't known in another thread.
 pub trait OpenLog {
-    /// Opens a log for appending, and makes the file if there is none. A pipe is opened for reading
-    /// too, so that it can be opened and written while nobody reads it. Calls of the file don't
-    /// wait for a reader.
+    /// Opens a log for appending, and makes the file if there is none: its owner can read and write
+    /// it, and its group can read it. A pipe is opened for reading too, so that it can be opened
+    /// and written while nobody reads it. Calls of the file don't wait for a reader.
     ///
     /// # Errors
     ///
@@ -52,7 +59,7 @@ pub trait OpenLog {
 impl OpenLog for HostRuntime {
     fn open_log(&self, path: &str) -> io::Result<File> {
         let mut how = OpenOptions::new();
-        how.read(true).append(true).create(true);
+        how.read(true).append(true).create(true).mode(LOG_MODE);
         let file = how.open(self, path)?;
         let _refused = os::set_nonblocking(file.as_raw_fd(), true);
         Ok(file)
@@ -91,8 +98,7 @@ impl LogWriter {
     fn tell(&mut self, rt: &impl Eprint, error: io::Error) {
         if !self.is_told {
             self.is_told = true;
-            let _ = rt.eprint("hole: the log can't be written: ");
-            let _ = rt.eprintln(error);
+            let _ = eprintln!(rt; "hole: the log can't be written: {error}");
         }
     }
 
@@ -206,8 +212,12 @@ fn spawn_writer<R: OpenLog + Threads + Wait + Clock + Eprint + Clone + Send + Dr
     };
     let theirs = Arc::try_clone(&queue).ok()?;
     let runtime = rt.clone().ok()?;
-    let thread = thread::spawn(rt, move || write_log(&runtime, writer, &receiver, &theirs)).ok()?;
-    Some(Log { queue, thread })
+    let builder = Builder::new().stack_size(STACK);
+    let thread = builder.spawn(rt, move || write_log(&runtime, writer, &receiver, &theirs));
+    Some(Log {
+        queue,
+        thread: thread.ok()?,
+    })
 }
 
 /// Starts the thread that writes the log at `path`, if there is one. If it can't be started, prints

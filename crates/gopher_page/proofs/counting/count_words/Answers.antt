@@ -13,10 +13,10 @@ use Rattle.gopher_page.proofs.counting.count_words.Goals as goal
 
 pub packed-requires : goal.packed-requires
 packed-requires c =
-    let lines : List (List ℕ) = map (λ line. line.now) c.args.lines.now in
+    let lines : List (List ℕ) = c.args.lines.now in
     let words : List (List ℕ) = c.in_ok-words.words.items in
     let sorted : List (List ℕ) = c.sort_unstable.new.self.items in
-    let found : words ≡ flat_map words_of lines = c.in_ok-words.ensures ∙ ap bare_words (c.as_slice.ensures ∙ c.in_ok-lowered.ensures ∙ ap (map lower_case) (c.deref.ensures.value ∙ c.in_ok-text.ensures)) ∙ words_of_lines lines in
+    let found : words ≡ flat_map words_of lines = c.in_ok-words.ensures ∙ ap bare_words (c.deref.ensures.value ∙ c.lower.ensures ∙ ap (map lower_case) c.in_ok-text.ensures) ∙ words_of_lines lines in
     let behind : c.deref-2.result.now ≡ sorted = c.deref-2.ensures.value in
     let count : length c.deref-2.result.now ≡ length (flat_map words_of lines) =
     ap length behind ∙ length_permutation words sorted c.sort_unstable.ensures.permutation ∙ ap length found
@@ -28,10 +28,10 @@ packed-requires c =
 
 pub returns : goal.returns
 returns c =
-    let lines : List (List ℕ) = map (λ line. line.now) c.args.lines.now in
+    let lines : List (List ℕ) = c.args.lines.now in
     let words : List (List ℕ) = c.in_ok-words.words.items in
     let sorted : List (List ℕ) = c.sort_unstable.new.self.items in
-    let found : words ≡ flat_map words_of lines = c.in_ok-words.ensures ∙ ap bare_words (c.as_slice.ensures ∙ c.in_ok-lowered.ensures ∙ ap (map lower_case) (c.deref.ensures.value ∙ c.in_ok-text.ensures)) ∙ words_of_lines lines in
+    let found : words ≡ flat_map words_of lines = c.in_ok-words.ensures ∙ ap bare_words (c.deref.ensures.value ∙ c.lower.ensures ∙ ap (map lower_case) c.in_ok-text.ensures) ∙ words_of_lines lines in
     let all : counts_of c.deref-2.result.now ≡ counts_of (flat_map words_of lines) =
     ap counts_of c.deref-2.ensures.value ∙ counted_sorted words sorted c.sort_unstable.ensures.permutation c.sort_unstable.ensures.sorted ∙ ap counts_of found
     in

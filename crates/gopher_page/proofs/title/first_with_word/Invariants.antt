@@ -1,7 +1,7 @@
-use Rattle.std.proofs.Common.{◌≡◌, map, drop}
+use Rattle.std.proofs.Common.{◌≡◌}
 use Rattle.std.specs.List.{find}
 use Rattle.gopher_page.specs.Page.{has_word}
 use Rattle.gopher_page.proofs.title.first_with_word.Given as goal
 
 abbrev pub invariant-loop-line : goal.invariant-loop-line
-invariant-loop-line l = find has_word (map (λ line. line.now) (drop l.line-index l.lines)) ≡ find has_word (map (λ line. line.now) l.lines)
+invariant-loop-line l = find has_word l.line-iterator ≡ find has_word l.lines

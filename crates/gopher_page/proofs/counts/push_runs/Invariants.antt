@@ -1,10 +1,12 @@
 use Rattle.std.proofs.Common.{◌≡◌, ◌-◌, ◌≤◌, ◌++◌, length, drop}
-use Rattle.gopher_page.specs.Counts.{run_lengths, run_values}
-use Rattle.gopher_page.proofs.counts.runs_of.Given as goal
+use Rattle.std.specs.List.{zip}
+use Rattle.gopher_page.specs.Counts.{run_lengths}
+use Rattle.gopher_page.proofs.counts.push_runs.Given as goal
 
 abbrev pub invariant-loop-start : goal.invariant-loop-start
 invariant-loop-start l = record {
-  found : run_values l.runs.items ++ run_lengths (drop l.start l.words) ≡ run_lengths l.words;
+  runs : zip l.distinct l.counts ++ run_lengths (drop l.start l.words) ≡ run_lengths l.words;
+  same : length l.counts ≡ length l.distinct;
   within : l.start ≤ length l.words;
 }
 
