@@ -38,16 +38,16 @@ const LARGE_SEARCH: usize = 2_048;
 // large page as `LARGE_SEARCH`.
 const FEW_POSTINGS: usize = 16_777_216;
 
-// Returns whether a search runs to its end in `begin`. `words` is the number of words of all pages,
-// which each prefix may go through. Each of the `large` large pages is searched for each term.
-fn is_light(terms: &[Term], words: usize, large: usize) -> bool {
+// Returns whether a search runs to its end in `begin`. Each prefix may go through all `postings`.
+// Each of the `large` large pages is searched for each term.
+fn is_light(terms: &[Term], postings: usize, large: usize) -> bool {
     let prefixes = terms.iter().filter(|term| term.is_prefix()).count();
     let searches = terms
         .len()
         .saturating_mul(large)
         .saturating_mul(LARGE_SEARCH);
-    let postings = prefixes.saturating_mul(words).saturating_add(searches);
-    terms.len() <= FEW_TERMS && postings <= FEW_POSTINGS
+    let most = prefixes.saturating_mul(postings).saturating_add(searches);
+    terms.len() <= FEW_TERMS && most <= FEW_POSTINGS
 }
 
 // Returns the number of large pages in segments.
@@ -77,8 +77,8 @@ pub struct Index {
     count: usize,
     // The numbers of the first pages of runs that are being merged.
     taken: Vec<usize>,
-    // The number of words of all pages, counted for each page.
-    words: usize,
+    // The number of postings of all pages.
+    postings: usize,
 }
 
 // Written out: a derived one, and that of each part, is proved again in every crate above.
@@ -88,7 +88,7 @@ impl Drop for Index {
             parts: _parts,
             count: _count,
             taken: _taken,
-            words: _words,
+            postings: _postings,
         } = self;
     }
 }
@@ -115,7 +115,7 @@ impl Index {
             parts: Vec::new(alloc),
             count: 0,
             taken: Vec::new(alloc),
-            words: 0,
+            postings: 0,
         }
     }
 
@@ -138,10 +138,10 @@ impl Index {
             self.taken.clear();
             self.settle();
         }
-        let words = page.counts().len();
+        let postings = page.counts().postings_len();
         self.parts.push(Part::page(self.count, page))?;
         self.count += 1;
-        self.words = self.words.saturating_add(words);
+        self.postings = self.postings.saturating_add(postings);
         Ok(())
     }
 
@@ -215,7 +215,7 @@ impl Index {
             parts: self.parts.to_vec(alloc)?,
             count: self.count,
             taken: Vec::new(alloc),
-            words: self.words,
+            postings: self.postings,
         })
     }
 
@@ -228,7 +228,7 @@ impl Index {
         ensures { IfOk result (λ begun. begun_hits begun ≡ answer_of self.now query.now) }
     {
         let terms = query.terms();
-        if is_light(terms, self.words, large_len(&self.parts)) {
+        if is_light(terms, self.postings, large_len(&self.parts)) {
             let hits = search(alloc, &self.parts, query)?;
             return Ok(Begun::Found(hits));
         }

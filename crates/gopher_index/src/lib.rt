@@ -16,10 +16,11 @@
 //!
 //! # Searches
 //!
-//! `Index::begin` runs a short search to its end (`search`): one of at most four terms that go
-//! through at most 16,777,216 postings together. For this limit a prefix goes through all postings,
-//! and a large page counts as 2,048 for each term. A search groups equal terms (`plan`) and goes
-//! through the parts in order. In each it spreads the counts of one group after another over an
+//! `Index::begin` runs a short search to its end (`search`): one of at most four terms whose
+//! prefixes go through at most 16,777,216 postings together. Each prefix goes through all postings,
+//! and a large page counts as 2,048 for each term. A word without `*` goes through one posting
+//! list, which doesn't count. A search groups equal terms (`plan`) and goes through the parts in
+//! order. In each it spreads the counts of one group after another over an
 //! array with one element for each page, and joins them to the matches and the scores so far
 //! (`joined`). A group of `not` and a word goes through the word's posting list, since it changes
 //! no other page. For a single word it goes through the posting list instead, and skips blocks of

@@ -160,7 +160,7 @@ impl Counts {
 
     /// Returns how many postings an index has for the words, each of which counts at most 255
     /// occurrences; at most `usize::MAX`.
-    pub(crate) fn postings_len(&self) -> usize
+    pub fn postings_len(&self) -> usize
         ensures { IsSum (postings_len self.now) result }
     {
         let mut postings = 0_usize;

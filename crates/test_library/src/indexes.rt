@@ -65,10 +65,15 @@ fn page<R: Abort + AllocGlobal>(rt: &R, words: u32) -> Arc<Page> {
         let word = format!(in rt.alloc(); "w{number} ").expect(rt, "a word");
         text.extend_from_slice(word.as_bytes()).expect(rt, "a text");
     }
+    page_of(rt, &text)
+}
+
+// The page of a text.
+fn page_of<R: Abort + AllocGlobal>(rt: &R, text: &[u8]) -> Arc<Page> {
     assert!(rt; text.len() <= 1_048_576);
     let place = Place::new(rt.alloc(), b'0', b"", b"h", 70).expect(rt, "a place");
     let scope = Scope::new(Vec::new(rt.alloc()), Vec::new(rt.alloc()));
-    let page = Page::of(rt.alloc(), &scope, &place, &text).expect(rt, "a page");
+    let page = Page::of(rt.alloc(), &scope, &place, text).expect(rt, "a page");
     Arc::new(rt.alloc(), page).expect(rt, "a shared page")
 }
 
@@ -190,4 +195,20 @@ fn a_run_is_due_once(rt: HostRuntime) {
         index.install(second);
         assert!(rt; due_len(&rt, &mut index.share(rt.alloc()).expect(&rt, "a copy")) == 0);
     }
+}
+
+// A word that occurs 524,288 times has 2,057 postings in a page, and each of four prefixes goes
+// through all of these: in 2,039 pages 16,776,892 times, in one more over 16,777,216 times.
+#[test]
+fn prefixes_go_through_all_postings(rt: HostRuntime) {
+    let text = b"a ".repeat(rt.alloc(), 524_288).expect(&rt, "a text");
+    let page = page_of(&rt, &text);
+    let query = query(&rt, false, b"a* a* a* a*");
+    let mut index = Index::new(rt.alloc());
+    add(&rt, &mut index, &page, 2_039);
+    let begun = index.begin(rt.alloc(), &query).expect(&rt, "a search");
+    assert!(rt; steps_of(&rt, begun) == 0);
+    add(&rt, &mut index, &page, 1);
+    let begun = index.begin(rt.alloc(), &query).expect(&rt, "a search");
+    assert!(rt; steps_of(&rt, begun) > 0);
 }
