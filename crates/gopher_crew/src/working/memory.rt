@@ -1,6 +1,6 @@
 //! The limit of the memory that the pages of a crawl may take, and the workers that had none.
 
-ghost use Rattle.std.specs.Prelude.{◌≡◌, ◌*◌, ◌≤◌, vec_len, IfOk};
+ghost use Rattle.std.specs.Prelude.{◌≡◌, ◌-◌, ◌*◌, ◌^◌, ◌≤◌, vec_len, IfOk};
 ghost use Rattle.gopher_crew.specs.Memory.{taken_with};
 
 use gopher_catalogue::Why;
@@ -39,6 +39,13 @@ pub(crate) enum Room<'a> {
     Alone(RwLockWriteGuard<'a, ()>),
 }
 
+// The limit of a crawl without a limit: the most that can be counted.
+fn no_limit() -> u64
+    ensures { result ≡ 2 ^ 64 - 1 }
+{
+    u64::MAX
+}
+
 // What is taken once a page of `size` bytes is too; `None` if the page doesn't fit.
 fn with_page(limit: u64, taken: u64, size: u64) -> Option<u64>
     ensures { result ≡ taken_with limit taken size }
@@ -70,7 +77,7 @@ impl PageMemory {
     /// A limit that no crawl reaches.
     pub fn unlimited() -> PageMemory {
         PageMemory {
-            limit: AtomicU64::new(u64::MAX),
+            limit: AtomicU64::new(no_limit()),
             taken: AtomicU64::new(0),
             in_use: AtomicU64::new(0),
             making: RwLock::new(()),
