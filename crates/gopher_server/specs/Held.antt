@@ -1,14 +1,14 @@
 -- The connections that a server thread holds, and what each is doing.
-use Rattle.std.specs.Prelude.{◌≡◌, ℕ, ◌+◌, ◌-◌, ◌^◌, ◌≤◌, ◌==◌, length, min, nat_eq, nat_le, Bool, false, not, ◌&&◌, if◌then◌else◌, List, [], ◌∷◌, ◌++◌, Option, None, Some}
+use Rattle.std.specs.Prelude.{◌≡◌, ℕ, ◌+◌, ◌-◌, ◌^◌, ◌≤◌, ◌==◌, length, take, min, nat_eq, nat_le, Bool, false, not, ◌&&◌, if◌then◌else◌, List, [], ◌∷◌, ◌++◌, Option, None, Some}
 use Rattle.std.specs.Borrow.{Fml, LendsIf, MutBor, RattleType}
 use Rattle.std.specs.List.{filter, list_any}
-use Rattle.std.specs.Option.{is_some, option_map, option_or}
-use Rattle.std.specs.Map.{lookup, remove_entry, set_value}
+use Rattle.std.specs.Option.{is_some, option_map, option_map_or, option_or}
+use Rattle.std.specs.Map.{keys_of, lookup, remove_entry, set_value}
 use Rattle.lru.specs.LruCache.{LruCache, last_entry, lru_cache, promoted, put_entries}
 use Rattle.gopher_server.specs.declared.decisions.held.Held.{Held}
 use Rattle.gopher_server.specs.contracts.decisions.held.Held.{the_row}
-use Rattle.gopher_serve.specs.declared.advancing.Progress.{Progress}
-use Rattle.gopher_serve.specs.declared.advancing.Progress.TheVariants.{Done, Paused, Waits}
+use Rattle.gopher_server.specs.declared.decisions.next.Next.{Next}
+use Rattle.gopher_server.specs.declared.decisions.next.Next.TheVariants.{GoesOn, Searches, Lingers, Breaks}
 
 abbrev pub foremost : {X : Type 0} → List X → Option X
 foremost [] = None
@@ -17,10 +17,6 @@ foremost (x ∷ xs) = Some x
 -- the keys without this one
 abbrev pub without_key : ℕ → List ℕ → List ℕ
 without_key key keys = filter (λ other. not (other == key)) keys
-
--- the deadlines without those of this key
-abbrev pub without_deadline : ℕ → List (ℕ × ℕ) → List (ℕ × ℕ)
-without_deadline key pairs = filter (λ pair. not (pair.0 == key)) pairs
 
 -- whether a key is among these
 abbrev pub has_key : ℕ → List ℕ → Bool
@@ -43,9 +39,17 @@ queue held = held.searching.items
 abbrev pub large_of : {T : Type 0} → Held T → List ℕ
 large_of held = held.large.items
 
--- the deadlines of those that linger: pairs of a key and a time, the earliest first
+-- the deadlines of those that linger: pairs of a key and a time, the earliest last
 abbrev pub deadlines : {T : Type 0} → Held T → List (ℕ × ℕ)
-deadlines held = held.deadlines.items
+deadlines held = held.deadlines.entries
+
+-- whether the connection at a key lingers: it has a deadline
+abbrev pub lingers : {T : Type 0} → Held T → ℕ → Bool
+lingers held key = is_some (lookup (nat_eq key) (deadlines held))
+
+-- the earliest deadline, if there is one
+abbrev pub first_deadline : {T : Type 0} → Held T → Option ℕ
+first_deadline held = option_map (λ pair. pair.1) (last_entry (deadlines held))
 
 -- all connections in their order, the most recently used first
 abbrev pub held_entries : {T : Type 0} → Held T → List (ℕ × T)
@@ -81,10 +85,12 @@ abbrev pub AreHeldOnce : {T : Type 0} → List ℕ → List (ℕ × T) → Type 
 AreHeldOnce keys held =
     (key : ℕ) → occurs key keys ≤ (if is_some (lookup (nat_eq key) held) then 1 else 0)
 
--- those that search and those that have a larger queue are connections that are held, each once
+-- those that search, have a larger queue or linger are connections that are held, each once
 abbrev pub IsSound : {T : Type 0} → Held T → Type 0
 IsSound held =
-    AreHeldOnce (queue held) (held_entries held) × AreHeldOnce (large_of held) (held_entries held)
+    AreHeldOnce (queue held) (held_entries held)
+    × AreHeldOnce (large_of held) (held_entries held)
+    × AreHeldOnce (keys_of (deadlines held)) (held_entries held)
 
 -- these keys, and once that of a connection that is held
 abbrev pub added : {T : Type 0} → List (ℕ × T) → ℕ → List ℕ → List ℕ
@@ -120,23 +126,28 @@ abbrev pub PutsHeld : {T : Type 0} → Held T → Held T → T → Type 0
 PutsHeld old new taken =
     new.connections ≡ with_entries old (put_entries nat_eq old.connections old.next_key taken)
 
--- the deadline of a key was set, 16 s later and after all others
-abbrev pub Lingers : {T : Type 0} → Held T → Held T → ℕ → ℕ → Type 0
-Lingers old new key now =
-    deadlines new ≡ deadlines old ++ (key, min (now + 16_000) (2 ^ 64 - 1)) ∷ []
+-- the deadlines with one 16 s after `now` for a connection that is held and has none yet
+abbrev pub lingering : {T : Type 0} → Held T → ℕ → ℕ → LruCache ℕ ℕ
+lingering held key now =
+    let time = min (now + 16_000) (2 ^ 64 - 1) in
+    if is_some (connection held key) && not (lingers held key)
+    then lru_cache (put_entries nat_eq held.deadlines key time) held.deadlines.cap
+    else held.deadlines
 
--- after an event a connection that is held can go on; while a search makes its reply it waits for
--- its turn, or is done if its client is gone
-abbrev pub step_at : {T : Type 0} → Held T → ℕ → Bool → Progress
-step_at held key is_gone =
-    if not (is_some (connection held key)) then Waits
-    else (if not (has_key key (queue held)) then Paused else (if is_gone then Done else Waits))
+-- after an event a connection that is held goes on, or lingers on; while a search makes its reply
+-- it waits for its turn, or is closed if its client is gone
+abbrev pub next_at : {T : Type 0} → Held T → ℕ → Bool → Option Next
+next_at held key is_gone =
+    if not (is_some (connection held key)) then None
+    else (if has_key key (queue held) then Some (if is_gone then Breaks else Searches)
+    else Some (if lingers held key then Lingers else GoesOn))
 
--- the key of the first deadline, if that isn't after `now`, and the other deadlines
+-- the key of the earliest deadline, if that isn't after `now`, and the other deadlines
 abbrev pub due_at : ℕ → List (ℕ × ℕ) → Option ℕ × List (ℕ × ℕ)
-due_at now [] = (None, [])
-due_at now (pair ∷ pairs) =
-    if nat_le pair.1 now then (Some pair.0, pairs) else (None, pair ∷ pairs)
+due_at now pairs =
+    option_map_or (λ pair.
+    if nat_le pair.1 now then (Some pair.0, take (length pairs - 1) pairs) else (None, pairs))
+    (last_entry pairs) (None, pairs)
 
 -- all connections in their states, with this one in place of the one at a key
 abbrev pub with_written : {T : Type 0} → Held T → ℕ → T → Held T

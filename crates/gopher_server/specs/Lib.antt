@@ -10,4 +10,5 @@ pub mod Unread
 pub mod Clients
 pub mod SendBuffer
 pub mod Messages
+pub mod Next
 pub mod Closings

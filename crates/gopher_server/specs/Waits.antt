@@ -5,7 +5,7 @@ use Rattle.std.specs.Option.{is_some, option_map, option_to_list, unwrap_or}
 use Rattle.std.specs.declared.time.Duration.{Duration}
 use Rattle.std.specs.List.{reduce}
 use Rattle.gopher_server.specs.Accepting.{has_ended, pause_end}
-use Rattle.gopher_server.specs.Held.{deadlines, foremost, held_entries, queue}
+use Rattle.gopher_server.specs.Held.{first_deadline, foremost, held_entries, queue}
 use Rattle.gopher_server.specs.ThreadLog as log
 use Rattle.gopher_server.specs.declared.decisions.accepting.Accepting.{Accepting}
 use Rattle.gopher_server.specs.declared.decisions.held.Held.{Held}
@@ -28,7 +28,7 @@ longest_wait searches resume deadline log now =
 
 -- a thread has something to do at a time: at the end of its pause, or at a deadline
 abbrev pub has_times : {T : Type 0} → Accepting → Held T → Bool
-has_times state held = is_some (pause_end state) || is_some (foremost (deadlines held))
+has_times state held = is_some (pause_end state) || is_some (first_deadline held)
 
 -- the time is there if a thread has something to do at a time
 abbrev pub HasNeededTime : {T : Type 0} → Accepting → Held T → Option ℕ → Type 0
@@ -40,7 +40,6 @@ abbrev pub IsLongestWait : {T : Type 0} → Held T → Accepting → ThreadLog �
     → Option Duration → Type 0
 IsLongestWait held state thread_log now wait =
     let searches = is_some (foremost (queue held)) in
-    let deadline = option_map (λ pair. pair.1) (foremost (deadlines held)) in
     option_map as_nanos wait ≡ option_map (λ millis. millis * 1_000_000)
-    (longest_wait searches (pause_end state) deadline (log.poll_timeout thread_log.batch)
-    (unwrap_or now 0))
+    (longest_wait searches (pause_end state) (first_deadline held)
+    (log.poll_timeout thread_log.batch) (unwrap_or now 0))

@@ -1,13 +1,15 @@
 //! One connection with a client.
 
-ghost use Rattle.std.specs.Prelude.{◌≡◌, ◌≢◌, ◌&&◌, ◌||◌, false, length, nat_lt, not, true, None};
-ghost use Rattle.std.specs.Option.{is_some};
+ghost use Rattle.std.specs.Prelude.{◌≡◌, ◌≢◌, ◌&&◌, false, length, nat_lt, true, None};
+ghost use Rattle.std.specs.Option.{is_some, option_map_or};
 ghost use Rattle.gopher_serve.specs.Talk.{asked_of};
 ghost use Rattle.gopher_serve.specs.declared.advancing.Progress.TheVariants.{Done, Paused};
+ghost use Rattle.gopher_server.specs.declared.decisions.next.Next.TheVariants.{Lingers};
 ghost use Rattle.gopher_server.specs.RequestLine.{search_of};
 ghost use Rattle.gopher_server.specs.ThreadLog.{LogsRequest};
 ghost use Rattle.gopher_server.specs.Unread.{CutsVisibly, IsHandedOver, IsWhole, SaysAll};
 
+use crate::decisions::Next;
 use crate::logging::{Accepted, RequestEnd, ThreadLog, search_of};
 use crate::request_reader::RequestReader;
 use crate::send_buffer::ReplyWriter;
@@ -17,7 +19,6 @@ use mio::net::TcpStream;
 use mio::{Interest, Registry, Token};
 use std::alloc::Global;
 use std::io::{self, ErrorKind, Read};
-use std::mem::replace;
 use std::net::Shutdown;
 use std::sync::Wait;
 use std::time::Clock;
@@ -60,14 +61,17 @@ pub(crate) struct Connection<'a> {
     // some, it is reset if it is closed or the process ends. They are taken once the system has the
     // whole reply.
     unread: usize,
-    // Whether its reply is sent, and it reads what the client still sends until a deadline.
-    lingers: bool,
-    // Whether it has that deadline.
-    has_deadline: bool,
     // What the poll reports of it; nothing so far if `None`.
     reported: Option<Interest>,
-    /// Whether the system queues more for its client than for others.
-    pub(crate) is_large: bool,
+}
+
+/// What came of going on with a connection.
+#[derive(Clone, Copy)]
+pub(crate) struct Step {
+    /// What is done next with it.
+    pub(crate) next: Next,
+    /// Whether the system now queues more for its client than for others.
+    pub(crate) is_enlarged: bool,
 }
 
 // Whether a line has a long search string.
@@ -113,23 +117,19 @@ fn hear<'a, A: Answers<'a> + Drop>(
     Progress::Failed(ServeFault::TooManyTurns)
 }
 
-// Reads the line of a conversation to the end; the progress is then `Paused`. If it is held back,
-// the progress is `Works` if the line has a long search string. Returns the progress, and how many
-// bytes of the request the reader left in the system's queue.
+// Reads the line of a conversation to the end; the progress is then `Paused`. Returns the progress,
+// and how many bytes of the request the reader left in the system's queue.
 fn listen<'a, A: Answers<'a> + Drop>(
     conversation: &mut Conversation<'a>,
     answering: &mut Answering<A>,
     reader: &mut RequestReader<'_>,
-    is_held_back: bool,
 ) -> (Progress, usize)
+    ensures asked { result.0 ≡ Paused → is_some (asked_of conversation.new) ≡ true }
     ensures ends { result.0 ≢ Done }
     ensures unread { result.1 ≡ reader.new.unread }
 {
     let heard = hear(conversation, answering, &mut Watched::new(&mut *reader));
-    match conversation.asked_line() {
-        Some(asked) if is_held_back && has_long_search(asked) => (Progress::Works, reader.unread),
-        _ => (heard, reader.unread),
-    }
+    (heard, reader.unread)
 }
 
 // Takes what was read of a request out of the system's queue.
@@ -157,10 +157,7 @@ impl<'a> Connection<'a> {
             network,
             accepted,
             unread: 0,
-            lingers: false,
-            has_deadline: false,
             reported: None,
-            is_large: false,
         }
     }
 
@@ -171,10 +168,21 @@ impl<'a> Connection<'a> {
         self.conversation.asked_line().is_some()
     }
 
+    // Whether its line is known and has a long search string.
+    fn asks_long_search(&self) -> bool
+        ensures { result ≡ option_map_or (λ asked. nat_lt 128 (length (search_of asked)))
+            (asked_of self.now.conversation) false }
+    {
+        match self.conversation.asked_line() {
+            Some(asked) => has_long_search(asked),
+            None => false,
+        }
+    }
+
     // What it waits for. It waits for room to write only while it has a reply to send, and then for
     // nothing else, because a report that it doesn't need costs a round.
-    fn interest(&self) -> Interest {
-        if self.lingers || self.conversation.asked_line().is_none() {
+    fn interest(&self, lingers: bool) -> Interest {
+        if lingers || self.conversation.asked_line().is_none() {
             Interest::READABLE
         } else {
             Interest::WRITABLE
@@ -182,12 +190,19 @@ impl<'a> Connection<'a> {
     }
 
     /// Has the poll report by `key` when its client is ready, even if it is ready already, unless
-    /// the reports suffice after this progress. Returns false if the system refuses.
-    pub(crate) fn watch(&mut self, registry: &Registry, key: usize, progress: Progress) -> bool {
-        let interest = self.interest();
-        let suffice = match progress {
-            Progress::Paused => false,
-            Progress::Waits => self.reported == Some(interest),
+    /// the reports suffice for what is done next with it. `lingers` says whether it lingers.
+    /// Returns false if the system refuses.
+    pub(crate) fn watch(
+        &mut self,
+        registry: &Registry,
+        key: usize,
+        next: Next,
+        lingers: bool,
+    ) -> bool {
+        let interest = self.interest(lingers);
+        let suffice = match next {
+            Next::GoesOn | Next::Lingers => false,
+            Next::Waits => self.reported == Some(interest),
             _ => self.reported.is_some(),
         };
         if suffice {
@@ -201,35 +216,40 @@ impl<'a> Connection<'a> {
         watched.is_ok()
     }
 
-    /// Goes on while the client is ready. If a search makes the reply, takes one step of it. If it
-    /// may enlarge its queue, the system then queues more of a long reply. If `is_held_back`, it
-    /// doesn't begin a long search. The progress is `Paused` if it lingers and can go on at once.
+    /// Goes on while the client is ready, until its reply is sent. If a search makes the reply,
+    /// takes one step of it. If it may enlarge its queue, the system then queues more of a long
+    /// reply. If `is_held_back`, it doesn't begin a long search.
     pub(crate) fn go_on<A: Answers<'a> + Drop>(
         &mut self,
         answering: &mut Answering<A>,
         may_enlarge: bool,
         is_held_back: bool,
-    ) -> Progress
-        ensures whole { self.old.lingers ≡ false → IsHandedOver result → IsWhole self.new }
-        ensures cut { CutsVisibly self.old self.new result }
+    ) -> Step
+        ensures whole { IsHandedOver result.next → IsWhole self.new }
+        ensures cut { CutsVisibly self.old self.new result.next }
     {
-        if self.lingers {
-            return self.read_on(&mut answering.buffer);
-        }
         let mut progress = Progress::Paused;
+        let mut is_enlarged = false;
         if self.conversation.asked_line().is_none() {
             let mut reader = RequestReader::new(&self.stream, self.unread);
-            let heard = listen(&mut self.conversation, answering, &mut reader, is_held_back);
+            let heard = listen(&mut self.conversation, answering, &mut reader);
             progress = heard.0;
             self.unread = heard.1;
+            if is_held_back && self.asks_long_search() {
+                return Step {
+                    next: Next::Searches,
+                    is_enlarged: false,
+                };
+            }
         }
         if progress == Progress::Paused {
-            progress = self.talk(answering, may_enlarge);
+            (progress, is_enlarged) = self.talk(answering, may_enlarge);
         }
         answering.is_short |= progress == Progress::Failed(ServeFault::NoMemory);
-        match progress {
-            Progress::Done => self.end_reply(&mut answering.buffer),
-            _ => progress,
+        let lingers = progress == Progress::Done && self.end_reply(&mut answering.buffer);
+        Step {
+            next: Next::after(progress, lingers),
+            is_enlarged,
         }
     }
 
@@ -255,18 +275,17 @@ impl<'a> Connection<'a> {
     }
 
     // Sends its reply while the client is ready and no search makes the reply. It reads nothing.
+    // Returns the progress, and whether the system now queues more for the client.
     fn talk<A: Answers<'a> + Drop>(
         &mut self,
         answering: &mut Answering<A>,
         may_enlarge: bool,
-    ) -> Progress
+    ) -> (Progress, bool)
         ensures unread { self.new.unread ≡ self.old.unread }
-        ensures lingers { self.new.lingers ≡ self.old.lingers }
-        ensures ends { result ≢ Paused }
-        ensures whole { result ≡ Done → SaysAll self.new.conversation }
+        ensures ends { result.0 ≢ Paused }
+        ensures whole { result.0 ≡ Done → SaysAll self.new.conversation }
     {
-        let reply_writer = ReplyWriter::new(&self.stream, may_enlarge && !self.is_large);
-        let mut writer = Watched::new(reply_writer);
+        let mut writer = Watched::new(ReplyWriter::new(&self.stream, may_enlarge));
         let progress = converse(
             answering.alloc,
             &mut self.conversation,
@@ -275,53 +294,38 @@ impl<'a> Connection<'a> {
             &mut writer,
             &mut answering.buffer,
         );
-        self.is_large = self.is_large || writer.into_inner().is_large;
-        progress
+        (progress, writer.into_inner().is_large)
     }
 
     // Takes its request out of the system's queue, now that the system has the whole reply, and
     // ends the sending side: the client sees the end of the reply. It may have sent more than its
     // line, and a connection that is closed over unread bytes is reset, which takes from the client
-    // what it hasn't read of the reply. So after a large reply it lingers.
-    fn end_reply(&mut self, buffer: &mut [u8; BUFFER_BYTES]) -> Progress
+    // what it hasn't read of the reply. So after a large reply it lingers. Returns whether it does.
+    fn end_reply(&mut self, buffer: &mut [u8; BUFFER_BYTES]) -> bool
         ensures unread { self.new.unread ≡ 0 }
-        ensures handed { IsHandedOver result }
         ensures conversation { self.new.conversation ≡ self.old.conversation }
-        ensures lingers { result ≡ Paused → self.new.lingers ≡ true }
-        ensures ends { result ≡ Done → self.new.lingers ≡ self.old.lingers }
     {
         take_request(&self.stream, buffer);
         self.unread = 0;
         let ended = self.stream.shutdown(Shutdown::Write);
-        if lingers_after(ended.is_ok(), self.conversation.sent_len()) {
-            self.lingers = true;
-            Progress::Paused
-        } else {
-            Progress::Done
-        }
+        lingers_after(ended.is_ok(), self.conversation.sent_len())
     }
 
-    /// Returns whether it lingers and has no deadline yet, and records that it gets one then.
-    pub(crate) fn needs_deadline(&mut self) -> bool
-        ensures first { result ≡ (self.old.lingers && not self.old.has_deadline) }
-        ensures later { self.new.has_deadline ≡ (self.old.lingers || self.old.has_deadline) }
+    /// Reads what the client still sends after its reply. Returns what is done next with it.
+    pub(crate) fn read_on(&mut self, buffer: &mut [u8; BUFFER_BYTES]) -> Next
+        ensures set { result ≢ Lingers }
     {
-        self.lingers && !replace(&mut self.has_deadline, true)
-    }
-
-    // Reads what the client still sends.
-    fn read_on(&mut self, buffer: &mut [u8; BUFFER_BYTES]) -> Progress {
         for _read in 0..MAX_READS {
             match (&self.stream).read(buffer) {
-                Ok(0) => return Progress::Done,
+                Ok(0) => return Next::Ends,
                 Ok(_) => {}
                 Err(error) => match error.kind() {
                     ErrorKind::Interrupted => {}
-                    ErrorKind::WouldBlock => return Progress::Waits,
-                    _ => return Progress::Done,
+                    ErrorKind::WouldBlock => return Next::Waits,
+                    _ => return Next::Breaks,
                 },
             }
         }
-        Progress::Paused
+        Next::GoesOn
     }
 }

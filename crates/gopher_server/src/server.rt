@@ -7,17 +7,17 @@ ghost use Rattle.gopher_server.specs.declared.decisions.accepting.Accepting.TheV
 ghost use Rattle.gopher_server.specs.declared.server.ThreadEnd.TheVariants.{Failed};
 
 use crate::acceptor::Acceptor;
-use crate::connection::{Answering, BUFFER_BYTES, Connection};
+use crate::connection::{Answering, BUFFER_BYTES, Connection, Step};
 use crate::decisions::{
-    AcceptEvent, AcceptFailure, Closings, Held, WAKER, failure_of, listeners_at, longest_wait,
-    network_of,
+    AcceptEvent, AcceptFailure, Closings, Held, Next, WAKER, failure_of, listeners_at,
+    longest_wait, network_of,
 };
 use crate::logging::ThreadLog;
 use crate::messages::{MessageStream, Messages};
 use crate::send_buffer::limit_send_buffer;
 use crate::setup::ThreadSetup;
 use crate::thread_clock::ThreadClock;
-use gopher_serve::{Answers, Progress};
+use gopher_serve::Answers;
 use mio::net::TcpStream;
 use mio::{Events, Poll};
 use std::alloc::Global;
@@ -180,19 +180,18 @@ impl<'a, A: Answers<'a> + Drop> Server<'a, A> {
         );
         let may_enlarge = self.connections.may_enlarge();
         let is_held_back = self.connections.next_search().is_some();
-        match connection.go_on(&mut self.answering, may_enlarge, is_held_back) {
-            Progress::Done | Progress::Failed(_) => {
-                connection.log_request(rt, alloc, &mut self.log);
-            }
-            progress => self.hold(rt, connection, progress),
+        let step = connection.go_on(&mut self.answering, may_enlarge, is_held_back);
+        match step.next {
+            Next::Ends | Next::Breaks => connection.log_request(rt, alloc, &mut self.log),
+            _ => self.hold(rt, connection, step),
         }
     }
 
     // Holds a connection that has to wait, unless its network has as many as it may.
-    fn hold<R: Wait + Clock>(&mut self, rt: &R, connection: Connection<'a>, progress: Progress) {
+    fn hold<R: Wait + Clock>(&mut self, rt: &R, connection: Connection<'a>, step: Step) {
         let mut connection = connection;
         match self.acceptor.shared.take_client(rt, connection.network) {
-            Ok(true) => self.take_in(rt, connection, progress),
+            Ok(true) => self.take_in(rt, connection, step),
             Ok(false) => connection.log_request(rt, self.answering.alloc, &mut self.log),
             Err(_) => {
                 self.answering.is_short = true;
@@ -202,7 +201,7 @@ impl<'a, A: Answers<'a> + Drop> Server<'a, A> {
     }
 
     // Takes in a connection that is counted for its network. Then makes room if there are too many.
-    fn take_in<R: Wait + Clock>(&mut self, rt: &R, connection: Connection<'a>, progress: Progress) {
+    fn take_in<R: Wait + Clock>(&mut self, rt: &R, connection: Connection<'a>, step: Step) {
         let (is_silent, network) = (!connection.has_asked(), connection.network);
         match self.connections.take_in(connection) {
             Ok(key) => {
@@ -210,7 +209,7 @@ impl<'a, A: Answers<'a> + Drop> Server<'a, A> {
                 if is_silent && self.connections.mark_silent(key).is_err() {
                     return self.close(rt, key);
                 }
-                self.meet_progress(rt, key, progress);
+                self.meet_step(rt, key, step);
                 self.make_room(rt);
             }
             Err(mut refused) => {
@@ -230,9 +229,10 @@ impl<'a, A: Answers<'a> + Drop> Server<'a, A> {
             }
             return;
         }
-        match self.connections.step_after_event(token, is_gone) {
-            Progress::Paused => self.go_on(rt, token),
-            Progress::Done => self.close(rt, token),
+        match self.connections.next_after_event(token, is_gone) {
+            Some(Next::GoesOn) => self.go_on(rt, token),
+            Some(Next::Lingers) => self.read_on(rt, token),
+            Some(Next::Breaks) => self.close(rt, token),
             _ => {}
         }
     }

@@ -1,8 +1,10 @@
 //! The connections of a server thread that wait: for their clients, or for the search that makes
 //! their reply.
 
+use crate::connection::Step;
+use crate::decisions::Next;
 use crate::server::Server;
-use gopher_serve::{Answers, Progress};
+use gopher_serve::Answers;
 use std::sync::Wait;
 use std::time::Clock;
 
@@ -68,55 +70,65 @@ impl<'a, A: Answers<'a> + Drop> Server<'a, A> {
 
     /// Goes on with the connection at a key, for which no search works.
     pub(crate) fn go_on<R: Wait + Clock>(&mut self, rt: &R, key: usize) {
-        let may_enlarge = self.connections.may_enlarge();
+        let may_enlarge = self.connections.may_enlarge() && !self.connections.is_large(key);
         let is_held_back = self.connections.next_search().is_some();
         let Some(connection) = self.connections.get_mut(key) else {
             return;
         };
-        let progress = connection.go_on(&mut self.answering, may_enlarge, is_held_back);
+        let step = connection.go_on(&mut self.answering, may_enlarge, is_held_back);
         let has_asked = connection.has_asked();
         self.connections.touch(key);
         if has_asked {
             self.connections.mark_asked(key);
         }
-        self.meet_progress(rt, key, progress);
+        self.meet_step(rt, key, step);
     }
 
-    /// Does what the progress of the connection at a key asks. Then has it reported when its client
-    /// is ready.
-    pub(crate) fn meet_progress<R: Wait + Clock>(
-        &mut self,
-        rt: &R,
-        key: usize,
-        progress: Progress,
-    ) {
-        match progress {
-            Progress::Waits => {}
-            Progress::Works => self.queue_search(rt, key),
-            Progress::Paused => self.linger(rt, key),
-            Progress::Done | Progress::Failed(_) => return self.close(rt, key),
-        }
+    /// Reads what the client of the connection at a key, which lingers, still sends.
+    pub(crate) fn read_on<R: Wait + Clock>(&mut self, rt: &R, key: usize) {
         let Some(connection) = self.connections.get_mut(key) else {
             return;
         };
-        let is_large = connection.is_large;
-        let is_watched = connection.watch(self.poll.registry(), key, progress);
-        if !is_watched || is_large && self.connections.mark_large(key).is_err() {
+        let next = connection.read_on(&mut self.answering.buffer);
+        self.connections.touch(key);
+        self.meet_next(rt, key, next);
+    }
+
+    /// Does what a step of the connection at a key asks.
+    pub(crate) fn meet_step<R: Wait + Clock>(&mut self, rt: &R, key: usize, step: Step) {
+        if step.is_enlarged && self.connections.mark_large(key).is_err() {
+            return self.close(rt, key);
+        }
+        self.meet_next(rt, key, step.next);
+    }
+
+    // Does what is next with the connection at a key. Unless it is closed, has it reported when its
+    // client is ready.
+    fn meet_next<R: Wait + Clock>(&mut self, rt: &R, key: usize, next: Next) {
+        match next {
+            Next::GoesOn | Next::Waits => {}
+            Next::Searches => self.queue_search(rt, key),
+            Next::Lingers => self.linger(rt, key),
+            Next::Ends | Next::Breaks => return self.close(rt, key),
+        }
+        let lingers = self.connections.lingers(key);
+        let Some(connection) = self.connections.get_mut(key) else {
+            return;
+        };
+        if !connection.watch(self.poll.registry(), key, next, lingers) {
             self.close(rt, key);
         }
     }
 
-    // Has the connection at a key logged, and closed in time, if its reply is sent.
+    // Has the connection at a key logged, and closed in time.
     fn linger<R: Wait + Clock>(&mut self, rt: &R, key: usize) {
         let Some(connection) = self.connections.get_mut(key) else {
             return;
         };
-        if connection.needs_deadline() {
-            connection.log_request(rt, self.answering.alloc, &mut self.log);
-            let now = self.clock.now(rt);
-            if self.connections.linger(key, now).is_err() {
-                self.close(rt, key);
-            }
+        connection.log_request(rt, self.answering.alloc, &mut self.log);
+        let now = self.clock.now(rt);
+        if self.connections.linger(key, now).is_err() {
+            self.close(rt, key);
         }
     }
 
@@ -147,19 +159,18 @@ impl<'a, A: Answers<'a> + Drop> Server<'a, A> {
         }
     }
 
-    // Takes steps of the search of the connection at a key, for about `SEARCH_TIME`.
-    fn take_steps(&mut self, clock: &impl Clock, key: usize) -> Progress {
+    // Takes steps of the search of the connection at a key, for about `SEARCH_TIME`. Returns what
+    // is done next with it, or `None` if there is none.
+    fn take_steps(&mut self, clock: &impl Clock, key: usize) -> Option<Next> {
         let until = self.clock.micros(clock).saturating_add(SEARCH_TIME);
         for _step in 0..MAX_SEARCH_STEPS {
-            let Some(connection) = self.connections.get_mut(key) else {
-                return Progress::Done;
-            };
-            let progress = connection.go_on(&mut self.answering, false, false);
-            if progress != Progress::Works || self.clock.micros(clock) >= until {
-                return progress;
+            let connection = self.connections.get_mut(key)?;
+            let next = connection.go_on(&mut self.answering, false, false).next;
+            if next != Next::Searches || self.clock.micros(clock) >= until {
+                return Some(next);
             }
         }
-        Progress::Works
+        Some(Next::Searches)
     }
 
     /// Works for a time on the search that is first in the queue.
@@ -167,11 +178,11 @@ impl<'a, A: Answers<'a> + Drop> Server<'a, A> {
         let Some(key) = self.connections.next_search() else {
             return;
         };
-        let progress = self.take_steps(rt, key);
-        let goes_on = progress == Progress::Works;
-        self.connections.end_turn(key, goes_on);
-        if !goes_on {
-            self.meet_progress(rt, key, progress);
+        let next = self.take_steps(rt, key);
+        self.connections.end_turn(key, next == Some(Next::Searches));
+        match next {
+            Some(Next::Searches) | None => {}
+            Some(next) => self.meet_next(rt, key, next),
         }
     }
 }

@@ -1,13 +1,13 @@
 //! The connections that a server thread holds, and what each is doing.
 
 ghost use Rattle.std.specs.Prelude.{◌≡◌, ◌+◌, ◌-◌, ◌^◌, [], length, min, nat_eq, nat_lt, Some, IfOk, IfErr, OnOk, OnErr};
-ghost use Rattle.std.specs.Option.{option_map, option_copied_mut};
+ghost use Rattle.std.specs.Option.{option_copied_mut};
 ghost use Rattle.std.specs.Borrow.{sem};
 ghost use Rattle.std.specs.Map.{remove_entry};
 ghost use Rattle.lru.specs.LruCache.{lru_cache, promoted};
-ghost use Rattle.gopher_server.specs.Held.{IsSound, LendsHeld, Lingers, PutsHeld, added, connection, deadlines, due_at, enlarged, foremost, held_entries, is_behind, large_of, queue, queue_after, queued, silent, silent_with, step_at, victim, with_first, without, without_deadline, without_key};
+ghost use Rattle.gopher_server.specs.Held.{IsSound, LendsHeld, PutsHeld, added, connection, deadlines, due_at, enlarged, first_deadline, foremost, has_key, held_entries, is_behind, large_of, lingering, lingers, next_at, queue, queue_after, queued, silent, silent_with, victim, with_first, without, without_key};
 
-use gopher_serve::Progress;
+use crate::decisions::next::Next;
 use lru::LruCache;
 use std::alloc::{AllocError, Global};
 use std::collections::VecDeque;
@@ -27,7 +27,8 @@ const MAX_LARGE: usize = 16;
 /// or with the most that there may be, which is any number, as `connections`. They see the keys of
 /// those that search as `queue`, the next one first, and the keys of those that have a larger queue
 /// in the system as `large_of`. They see the keys of those that have asked nothing yet, each beside
-/// an empty value, as `silent`, the most recently used first.
+/// an empty value, as `silent`, the most recently used first, and the deadlines of those that
+/// linger, each beside its key, as `deadlines`, the earliest last.
 #[derive(Drop)]
 pub struct Held<T: Drop> {
     connections: LruCache<usize, T>,
@@ -35,8 +36,9 @@ pub struct Held<T: Drop> {
     next_key: usize,
     searching: VecDeque<usize>,
     large: VecDeque<usize>,
-    // The deadlines of those that linger. Each gets the same time, so the first is the earliest.
-    deadlines: VecDeque<(usize, u64)>,
+    // The deadlines of those that linger. Each gets the same time, so the one set first is the
+    // earliest.
+    deadlines: LruCache<usize, u64>,
 }
 
 // Appends the key of a connection that is held, unless it is there.
@@ -61,13 +63,6 @@ fn remove_key(keys: &mut VecDeque<usize>, key: usize)
     keys.retain(|other| *other != key);
 }
 
-// Removes the deadlines of a key. The others keep their order.
-fn remove_deadline(deadlines: &mut VecDeque<(usize, u64)>, key: usize)
-    ensures { deadlines.new.items ≡ without_deadline key deadlines.old.items }
-{
-    deadlines.retain(|pair| pair.0 != key);
-}
-
 impl<T: Drop> Held<T> {
     /// Makes an empty collection.
     pub fn new(alloc: Global) -> Result<Held<T>, AllocError>
@@ -75,7 +70,7 @@ impl<T: Drop> Held<T> {
         ensures next { IfOk result (λ none. none.next_key ≡ 0) }
         ensures queue { IfOk result (λ none. queue none ≡ []) }
         ensures large { IfOk result (λ none. large_of none ≡ []) }
-        ensures deadlines { IfOk result (λ none. deadlines none ≡ []) }
+        ensures deadlines { IfOk result (λ none. none.deadlines ≡ lru_cache [] (2 ^ 64 - 1)) }
         ensures silent { IfOk result (λ none. none.silent ≡ lru_cache [] (2 ^ 64 - 1)) }
         ensures sound { IfOk result IsSound }
     {
@@ -85,7 +80,7 @@ impl<T: Drop> Held<T> {
             next_key: 0,
             searching: VecDeque::new(alloc),
             large: VecDeque::new(alloc),
-            deadlines: VecDeque::new(alloc),
+            deadlines: LruCache::unbounded(alloc)?,
         })
     }
 
@@ -111,6 +106,7 @@ impl<T: Drop> Held<T> {
         ensures kept { OnErr result (self.new ≡ self.old) }
         ensures queue { queue self.new ≡ queue self.old }
         ensures large { large_of self.new ≡ large_of self.old }
+        ensures deadlines { deadlines self.new ≡ deadlines self.old }
         ensures silent { silent self.new ≡ silent self.old }
     {
         let key = self.next_key;
@@ -149,6 +145,7 @@ impl<T: Drop> Held<T> {
         ensures next { self.new.next_key ≡ self.old.next_key }
         ensures queue { queue self.new ≡ queue self.old }
         ensures large { large_of self.new ≡ large_of self.old }
+        ensures deadlines { deadlines self.new ≡ deadlines self.old }
         ensures silent { silent self.new ≡ promoted (nat_eq key) (silent self.old) }
         ensures sound { IsSound self.old → IsSound self.new }
     {
@@ -164,31 +161,35 @@ impl<T: Drop> Held<T> {
         ensures next { self.new.next_key ≡ self.old.next_key }
         ensures queue { queue self.new ≡ without_key key (queue self.old) }
         ensures large { large_of self.new ≡ without_key key (large_of self.old) }
-        ensures deadlines { deadlines self.new ≡ without_deadline key (deadlines self.old) }
+        ensures deadlines { deadlines self.new ≡ remove_entry (nat_eq key) (deadlines self.old) }
         ensures silent { silent self.new ≡ remove_entry (nat_eq key) (silent self.old) }
         ensures sound { IsSound self.old → IsSound self.new }
     {
         remove_key(&mut self.searching, key);
         remove_key(&mut self.large, key);
-        remove_deadline(&mut self.deadlines, key);
+        let _deadline = self.deadlines.pop(&key);
         let _was_silent = self.silent.pop(&key);
         self.connections.pop(&key)
     }
 
-    /// Returns the progress of the connection at a key after an event: it can go on; or, in the
-    /// queue of searches, it is done if its client takes nothing more (`is_gone`), and else waits
-    /// for its turn.
-    pub fn step_after_event(&self, key: usize, is_gone: bool) -> Progress
-        ensures { result ≡ step_at self.now key is_gone }
+    /// Returns what is done after an event with the connection at a key, or `None` if there is
+    /// none. It goes on, or lingers on. If a search makes its reply, it waits for its turn, or is
+    /// closed if its client takes nothing more (`is_gone`).
+    pub fn next_after_event(&self, key: usize, is_gone: bool) -> Option<Next>
+        ensures { result ≡ next_at self.now key is_gone }
     {
         if !self.connections.contains(&key) {
-            Progress::Waits
-        } else if !self.searching.contains(&key) {
-            Progress::Paused
-        } else if is_gone {
-            Progress::Done
+            None
+        } else if self.searching.contains(&key) {
+            Some(if is_gone {
+                Next::Breaks
+            } else {
+                Next::Searches
+            })
+        } else if self.lingers(key) {
+            Some(Next::Lingers)
         } else {
-            Progress::Waits
+            Some(Next::GoesOn)
         }
     }
 
@@ -202,6 +203,7 @@ impl<T: Drop> Held<T> {
         ensures others { self.new.connections ≡ self.old.connections }
         ensures queue { queue self.new ≡ queue self.old }
         ensures large { large_of self.new ≡ large_of self.old }
+        ensures deadlines { deadlines self.new ≡ deadlines self.old }
     {
         if self.connections.contains(&key) {
             let _before = self.silent.put(key, ())?;
@@ -215,6 +217,7 @@ impl<T: Drop> Held<T> {
         ensures others { self.new.connections ≡ self.old.connections }
         ensures queue { queue self.new ≡ queue self.old }
         ensures large { large_of self.new ≡ large_of self.old }
+        ensures deadlines { deadlines self.new ≡ deadlines self.old }
         ensures sound { IsSound self.old → IsSound self.new }
     {
         let _silent = self.silent.pop(&key);
@@ -229,6 +232,7 @@ impl<T: Drop> Held<T> {
         ensures refused { OnErr result (queue self.new ≡ queue self.old) }
         ensures others { self.new.connections ≡ self.old.connections }
         ensures large { large_of self.new ≡ large_of self.old }
+        ensures deadlines { deadlines self.new ≡ deadlines self.old }
         ensures silent { silent self.new ≡ silent self.old }
         ensures sound { IsSound self.old → IsSound self.new }
     {
@@ -256,6 +260,7 @@ impl<T: Drop> Held<T> {
         ensures first { self.new.connections ≡ with_first self.old key }
         ensures queue { queue self.new ≡ queue_after goes_on key (queue self.old) }
         ensures large { large_of self.new ≡ large_of self.old }
+        ensures deadlines { deadlines self.new ≡ deadlines self.old }
         ensures silent { silent self.new ≡ promoted (nat_eq key) (silent self.old) }
         ensures sound { IsSound self.old → IsSound self.new }
     {
@@ -267,39 +272,61 @@ impl<T: Drop> Held<T> {
 
     // ---- lingering
 
-    /// Has the connection at a key linger for 16 s (`LINGER`) from `now`. Times are milliseconds by
-    /// one clock.
+    /// Has the connection at a key linger for 16 s (`LINGER`) from `now`, unless it lingers. Times
+    /// are milliseconds by one clock.
     pub fn linger(&mut self, key: usize, now: u64) -> Result<(), AllocError>
-        ensures set { OnOk result (Lingers self.old self.new key now) }
+        ensures set { OnOk result (self.new.deadlines ≡ lingering self.old key now) }
+        ensures refused { OnErr result (self.new.deadlines ≡ self.old.deadlines) }
         ensures others { self.new.connections ≡ self.old.connections }
         ensures queue { queue self.new ≡ queue self.old }
         ensures large { large_of self.new ≡ large_of self.old }
         ensures silent { silent self.new ≡ silent self.old }
+        ensures sound { IsSound self.old → IsSound self.new }
     {
-        self.deadlines.push_back((key, now.saturating_add(LINGER)))?;
+        if self.connections.contains(&key) && !self.lingers(key) {
+            let _before = self.deadlines.put(key, now.saturating_add(LINGER))?;
+        }
         Ok(())
     }
 
-    /// Returns the first deadline, or `None` if there is none.
-    pub fn first_deadline(&self) -> Option<u64>
-        ensures { result ≡ option_map (λ pair. pair.1) (foremost (deadlines self.now)) }
+    /// Returns whether the connection at a key lingers: it has a deadline.
+    pub fn lingers(&self, key: usize) -> bool
+        ensures { result ≡ lingers self.now key }
     {
-        self.deadlines.front().map(|pair| pair.1)
+        self.deadlines.contains(&key)
     }
 
-    /// Removes the first deadline and returns its key, if the deadline isn't after the time `now`.
+    /// Returns the earliest deadline, or `None` if there is none.
+    pub fn first_deadline(&self) -> Option<u64>
+        ensures { result ≡ first_deadline self.now }
+    {
+        self.deadlines.peek_lru().map(|pair| *pair.1)
+    }
+
+    /// Removes the earliest deadline and returns its key, if the deadline isn't after the time
+    /// `now`.
     pub fn take_due(&mut self, now: u64) -> Option<usize>
         ensures due { (result, deadlines self.new) ≡ due_at now (deadlines self.old) }
         ensures others { self.new.connections ≡ self.old.connections }
         ensures queue { queue self.new ≡ queue self.old }
         ensures large { large_of self.new ≡ large_of self.old }
         ensures silent { silent self.new ≡ silent self.old }
+        ensures sound { IsSound self.old → IsSound self.new }
     {
-        let taken = self.deadlines.pop_front_if(|pair| pair.1 <= now);
-        taken.map(|pair| pair.0)
+        if self.first_deadline()? > now {
+            return None;
+        }
+        self.deadlines.pop_lru().map(|pair| pair.0)
     }
 
     // ---- larger queues
+
+    /// Returns whether the connection at a key has a larger queue.
+    pub fn is_large(&self, key: usize) -> bool
+        ensures { result ≡ has_key key (large_of self.now) }
+    {
+        self.large.contains(&key)
+    }
 
     /// Returns whether one more connection may have a larger queue: fewer than 16 (`MAX_LARGE`)
     /// have one.
@@ -315,6 +342,7 @@ impl<T: Drop> Held<T> {
         ensures refused { OnErr result (large_of self.new ≡ large_of self.old) }
         ensures others { self.new.connections ≡ self.old.connections }
         ensures queue { queue self.new ≡ queue self.old }
+        ensures deadlines { deadlines self.new ≡ deadlines self.old }
         ensures silent { silent self.new ≡ silent self.old }
         ensures sound { IsSound self.old → IsSound self.new }
     {

@@ -4,4 +4,4 @@ use Rattle.gopher_server.proofs.decisions.held.Held.queue_search.Goals as goal
 pub returns-clause-sound : goal.returns-clause-sound
 returns-clause-sound g c =
     let old = c.args.self.now in
-    λ sound. (grown_once c.add_key.result c.args.key old.searching.items c.add_key.new.keys.items old.connections.entries c.add_key.ensures.added c.add_key.ensures.refused sound.0, sound.1)
+    λ sound. (grown_once c.add_key.result c.args.key old.searching.items c.add_key.new.keys.items old.connections.entries c.add_key.ensures.added c.add_key.ensures.refused sound.0, sound.1, sound.2)
