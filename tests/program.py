@@ -63,6 +63,12 @@ SEED = '[[seeds]]\nhost = "h"\n[[allow]]\nhost = "h"\n'
 # How many files may be open, and settings whose threads and workers need more.
 FEW_FILES = ((64, "threads = 1\n"), (68, "workers = 4\n" + SEED), (89, "threads = 8\nworkers = 16\n" + SEED))
 NO_THREAD, NOT_STARTED = b"hole: 82\n", b"hole: a server thread can't be started\n"
+# The most bytes of a packet. Folders of check_lines with more settings, and the lines of their faults.
+PACKET = 4_096
+FAULTS = (
+    ("menus", "", b"hole: 24 file 0 line 1\n"), ("names", "", b"hole: 20 file 0\n"), ("site", "port = 0\n", b"hole: 33 port\n"),
+    ("site", '[[seeds]]\nhost = "h"\n', b"hole: 50 seed 0\n"), ("none", "", b"hole: 26\n"),
+)
 FINISHED = b"hole: crawl finished: 0 found, 0 failed, 0 dropped in 0 s\n"
 # The number of server threads; which of the threads don't start; more words; whether a text is sent; the output at the end, and
 # the errors.
@@ -127,6 +133,26 @@ def check_writes(test):
     script = b"allow\th\t70\t\n" + seeds + b"start\t50\n" + claims + b"search\tx\n"
     output, _, writes = counted(test, ["replay"], script)
     test.expect("each of 102 answers goes out in a write of its own", (output, writes), (model.replayed(script)[0], 102))
+
+
+def error_writes(test, words, script):
+    """What each write of these words to their error stream has: a pipe of packets keeps them apart."""
+    reader, writer = os.pipe2(os.O_DIRECT)
+    with open(reader, "rb", buffering=0) as packets:
+        with open(writer, "wb", buffering=0) as error:
+            test.run(*words, input=script, stderr=error)
+        return [*iter(lambda: packets.read(PACKET), b"")]
+
+
+def check_lines(test):
+    """The line of a fault goes out in one write, with its number and what it names, so that lines of two programs don't mix."""
+    root = test.site({"menus/.menu": b"0no path\n", "names/a\tb": b"hello\n", "site/a.txt": b"hello\n"})
+    script, _, line = REFUSED_START
+    cases = {"": b"hole: 31 host\n", **{f'host = "{HOST}"\nroot = "{root}/{name}"\n{more}': told for name, more, told in FAULTS}}
+    for text, told in cases.items():
+        (root / "hole.toml").write_text(text)
+        test.expect(f"the writes of {told}", error_writes(test, ["serve", root / "hole.toml"], b""), [told])
+    test.expect("the writes of a bad line", error_writes(test, ["replay"], script), [b"hole: 70 line %d\n" % line])
 
 
 def check_errors(test):
@@ -305,5 +331,5 @@ def check_toolchain(test):
 
 
 if __name__ == "__main__":
-    of_streams = (check_reads, check_writes, check_errors, check_starts)
+    of_streams = (check_reads, check_writes, check_lines, check_errors, check_starts)
     run_test("program", __doc__, *of_streams, check_readme, check_first_site, check_replays, check_own_settings, check_ends, check_toolchain)

@@ -1,16 +1,18 @@
 //! What the program writes: its texts, the line after it listens, and the line of a fault, with the
 //! setting or seed that it names.
 
-ghost use Rattle.std.specs.Prelude.{◌≡◌, [], ◌∷◌, ◌++◌, IfErr, IfOk, OnOk};
+ghost use Rattle.std.specs.Prelude.{◌≡◌, ◌≤◌, ◌+◌, ◌++◌, length, IfErr, IfOk, OnOk};
 ghost use Rattle.std.specs.Fmt.{decimal};
+ghost use Rattle.arrayvec.specs.ArrayString.{array_string_len};
 ghost use Rattle.gopher_script.specs.Answer.{status_line};
 ghost use Rattle.gopher_script.specs.Replay.{SendsAnswer};
 ghost use Rattle.gopher_text.specs.Watched.{HasSent};
 ghost use Rattle.gopher_hole.specs.Ending.{listening_line};
 ghost use Rattle.gopher_hole.specs.ServerFault.{IsServingFault};
-ghost use Rattle.gopher_hole.specs.Fault.{detail_bytes, details_bytes, line_bytes, fault_line};
+ghost use Rattle.gopher_hole.specs.Fault.{detail_bytes, fault_line};
 
 use crate::fault::{Detail, ProgramFault};
+use arrayvec::ArrayString;
 use gopher_catalogue::Status;
 use gopher_item::{Home, NoMemory};
 use gopher_script::{ReplayFault, send_all, status_line};
@@ -18,6 +20,10 @@ use gopher_text::{Watched, send};
 use itoa::Buffer;
 use std::alloc::Global;
 use std::io::Write;
+
+// The most bytes of a fault's line: its number and two details, each a text of at most six bytes
+// and a number of at most 20 digits, and the end of the line.
+const MAX_FAULT_LINE: usize = 79;
 
 /// Sends a text to the output stream and flushes it.
 ///
@@ -84,86 +90,50 @@ pub fn tell_status<W: Write>(
     send_text(output, &line)
 }
 
-// Writes a text and then another.
-fn send_both<E: Write>(
-    error: &mut Watched<E>,
-    first: &[u8],
-    second: &[u8],
-) -> Result<(), ReplayFault>
-    ensures { SendsAnswer E.contents (first.now ++ second.now) error.old error.new result }
+// Appends a text of at most six bytes and a number.
+fn push_number(line: &mut ArrayString<MAX_FAULT_LINE>, front: &str, number: usize)
+    requires short { length front.now ≤ 6 }
+    requires room { array_string_len line.old + 26 ≤ 79 }
+    ensures pushed { line.new.bytes ≡ line.old.bytes ++ (front.now ++ decimal number) }
+    ensures few { array_string_len line.new ≤ array_string_len line.old + 26 }
 {
-    if let Err(fault) = send_all(error, first) {
-        return Err(fault);
-    }
-    send_all(error, second)
+    line.push_str(front);
+    line.push_str(Buffer::new().format(number));
 }
 
-// Writes a text and a number.
-fn write_number<E: Write>(
-    error: &mut Watched<E>,
-    front: &[u8],
-    number: usize,
-) -> Result<(), ReplayFault>
-    ensures { SendsAnswer E.contents (front.now ++ decimal number) error.old error.new result }
-{
-    let mut digits = Buffer::new();
-    send_both(error, front, digits.format(number).as_bytes())
-}
-
-// Writes a detail of a fault.
-fn write_detail<E: Write>(error: &mut Watched<E>, detail: Detail) -> Result<(), ReplayFault>
-    ensures { SendsAnswer E.contents (detail_bytes detail) error.old error.new result }
+// Appends a detail of a fault.
+fn push_detail(line: &mut ArrayString<MAX_FAULT_LINE>, detail: Detail)
+    requires { array_string_len line.old + 26 ≤ 79 }
+    ensures pushed { line.new.bytes ≡ line.old.bytes ++ detail_bytes detail }
+    ensures few { array_string_len line.new ≤ array_string_len line.old + 26 }
 {
     match detail {
-        Detail::Nothing => send_all(error, b""),
-        Detail::Key(key) => send_both(error, b" ", key.name().as_bytes()),
-        Detail::File(file) => write_number(error, b" file ", file),
-        Detail::Seed(seed) => write_number(error, b" seed ", seed),
-        Detail::Line(line) => write_number(error, b" line ", line),
+        Detail::Nothing => {}
+        Detail::Key(key) => {
+            line.push_str(" ");
+            line.push_str(key.name());
+        }
+        Detail::File(file) => push_number(line, " file ", file),
+        Detail::Seed(seed) => push_number(line, " seed ", seed),
+        Detail::Line(number) => push_number(line, " line ", number),
     }
 }
 
-// Writes two details of a fault.
-fn write_details<E: Write>(
-    error: &mut Watched<E>,
-    details: (Detail, Detail),
-) -> Result<(), ReplayFault>
-    ensures { SendsAnswer E.contents (details_bytes details) error.old error.new result }
+// The line of a fault. It takes no memory, because the fault may be that there is none.
+fn fault_line(fault: ProgramFault) -> ArrayString<MAX_FAULT_LINE>
+    ensures { result.bytes ≡ fault_line fault }
 {
-    if let Err(fault) = write_detail(error, details.0) {
-        return Err(fault);
-    }
-    write_detail(error, details.1)
+    let (first, second) = fault.details();
+    let mut line = ArrayString::new();
+    push_number(&mut line, "hole: ", usize::from(fault.code()));
+    push_detail(&mut line, first);
+    push_detail(&mut line, second);
+    line.push_str("\n");
+    line
 }
 
-// Writes the rest of a fault's line after its number.
-fn write_rest<E: Write>(
-    error: &mut Watched<E>,
-    details: (Detail, Detail),
-) -> Result<(), ReplayFault>
-    ensures { SendsAnswer E.contents (details_bytes details ++ 10 ∷ []) error.old error.new result }
-{
-    if let Err(fault) = write_details(error, details) {
-        return Err(fault);
-    }
-    send_all(error, b"\n")
-}
-
-// Writes the line of a fault with this number and these details.
-fn write_line<E: Write>(
-    error: &mut Watched<E>,
-    code: usize,
-    details: (Detail, Detail),
-) -> Result<(), ReplayFault>
-    ensures { SendsAnswer E.contents (line_bytes code details) error.old error.new result }
-{
-    if let Err(fault) = write_number(error, b"hole: ", code) {
-        return Err(fault);
-    }
-    write_rest(error, details)
-}
-
-/// Writes the line of a fault: its number, and what it says after the number.
+/// Writes the line of a fault: its number, and what it says after the number. All of it is passed
+/// to the stream at once, so that lines of several programs don't mix.
 ///
 /// # Errors
 ///
@@ -171,5 +141,5 @@ fn write_line<E: Write>(
 pub fn write_fault<E: Write>(error: &mut Watched<E>, fault: ProgramFault) -> Result<(), ReplayFault>
     ensures { SendsAnswer E.contents (fault_line fault) error.old error.new result }
 {
-    write_line(error, usize::from(fault.code()), fault.details())
+    send_all(error, fault_line(fault).as_str().as_bytes())
 }
