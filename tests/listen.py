@@ -28,6 +28,8 @@ IPV6, LOOPBACK = pathlib.Path("/proc/net/if_inet6"), f"{1:032}"
 # A host that has the addresses that a library gives it, and how many of them are served at most; how many addresses may be named,
 # and how many sockets that are handed over are served.
 NAME, MOST_OF_HOST, MOST_NAMED, MOST_INHERITED = "many.invalid", 32, 1_024, 64
+# What is said of sockets that are handed over if they are more, and numbers of them that can't be read or are past that.
+TOO_MANY, BAD_COUNTS = "hole: can't listen: LISTEN_FDS isn't a number up to 64", ("65", "256", "-1", "1x", "")
 NO_SEEDS = "warning: searches find nothing, because the settings have no [[seeds]]\n"
 
 
@@ -78,14 +80,15 @@ def check_named(test):
     listening(test, root, "--listen", "[::]", hosts=("::1", HOST))
 
 
-def handing_over(*sockets, receiver="os.getpid()"):
-    """How to start a program with these sockets as those of socket activation, sd_listen_fds(3), for itself or another process."""
+def handing_over(*sockets, receiver="os.getpid()", count="len(kept)"):
+    """How to start a program with these sockets as those of socket activation, sd_listen_fds(3), for itself or another process. Their
+    number is said to be `count`."""
     numbers = [each.fileno() for each in sockets]
     code = (
         "import fcntl, os, sys\n"
         "kept = [fcntl.fcntl(int(number), fcntl.F_DUPFD, 100) for number in sys.argv[1].split(',')]\n"
         "for place, number in enumerate(kept):\n    os.dup2(number, 3 + place)\n"
-        f"os.environ.update(LISTEN_PID=str({receiver}), LISTEN_FDS=str(len(kept)))\n"
+        f"os.environ.update(LISTEN_PID=str({receiver}), LISTEN_FDS=str({count}))\n"
         "os.execv(sys.argv[2], sys.argv[2:])\n"
     )
     return {"before": (sys.executable, "-c", code, ",".join(map(str, numbers))), "pass_fds": numbers}
@@ -124,13 +127,11 @@ def check_most(test):
         test.expect("of the most addresses that are named", replies, [REPLY] * MOST_NAMED)
     with contextlib.ExitStack() as ends:
         sockets = [ends.enter_context(socket.create_server((HOST, 0))) for _ in range(MOST_INHERITED + 1)]
-        *ports, last = [each.getsockname()[1] for each in sockets]
-        with test.serving(root, **handing_over(*sockets)):
+        ports = [each.getsockname()[1] for each in sockets[:-1]]
+        with test.serving(root, **handing_over(*sockets[:-1])):
             replies = [ask_whole(port, asked) for port in ports]
             test.expect("of the sockets that are handed over", replies, [REPLY] * MOST_INHERITED)
-            with connect(last, wait=0.5) as client:
-                client.sendall(asked)
-                test.expect("whether one more of them is served", ends_in_time(client), False)
+        fails_to_listen(test, root, TOO_MANY, **handing_over(*sockets))
     with test.serving(root, "--requests", 2) as server, connect(server.port) as held:
         held.sendall(b"/a")
         replies = [ask_whole(server.port, asked) for _ in range(2)]
@@ -144,6 +145,9 @@ def check_activation(test):
         places = [(HOST, each.getsockname()[1]) for each in (first, second)]
         listening(test, root, hosts=places, **handing_over(first, second))
         listening(test, root, **handing_over(first, receiver="os.getppid()"))
+        listening(test, root, **handing_over(first, count=0))
+        for count in BAD_COUNTS:
+            fails_to_listen(test, root, TOO_MANY, **handing_over(first, count=repr(count)))
         other.bind((HOST, 0))
         test.expect("a socket that doesn't listen", test.ended(root, **handing_over(other))[1:], (NOT_LISTENING, 1))
         _, error, status = test.ended(root, "--progress", **handing_over(other))

@@ -11,7 +11,7 @@ use libc::net::{IPPROTO_TCP, TCP_NODELAY, getsockopt};
 use mio::net::TcpListener;
 use os::FromRawFd;
 use std::alloc::Global;
-use std::env::{self, Env};
+use std::env::{self, Env, VarError};
 use std::io::{self, Eprint};
 use std::net::{Net, SocketAddr, ToSocketAddrs};
 use std::str;
@@ -19,7 +19,7 @@ use std::str;
 // The first descriptor that systemd's socket activation hands to a process (sd_listen_fds(3)).
 const FIRST_INHERITED: u8 = 3;
 
-// The most of its sockets that are used.
+// The most sockets that it may hand over.
 const MAX_INHERITED: u8 = 64;
 
 // If `tells`, prints on the error stream why an address can't be bound.
@@ -81,13 +81,35 @@ fn number_of<R: Env + AllocGlobal>(rt: &R, name: &str) -> Option<i32> {
     text.as_str().parse::<i32>().ok()
 }
 
-// How many sockets systemd's socket activation hands to this process (sd_listen_fds(3)).
-fn inherited_count<R: Env + AllocGlobal>(rt: &R) -> u8 {
-    if number_of(rt, "LISTEN_PID") != Some(libc::getpid()) {
-        return 0;
+// The number of sockets that a text says, or `None` if it says none up to `MAX_INHERITED`.
+fn count_of(text: &str) -> Option<u8> {
+    match text.parse::<u8>() {
+        Ok(count) if count <= MAX_INHERITED => Some(count),
+        _ => None,
     }
-    let count = number_of(rt, "LISTEN_FDS").unwrap_or(0);
-    u8::try_from(count).unwrap_or(0).min(MAX_INHERITED)
+}
+
+// How many sockets systemd's socket activation hands to this process (sd_listen_fds(3)). If it
+// doesn't say, or they are too many, and `tells`, prints so.
+fn inherited_count<R: Env + Eprint + AllocGlobal>(rt: &R, tells: bool) -> Result<u8, ProgramFault>
+    ensures { IfErr result IsServingFault }
+{
+    if number_of(rt, "LISTEN_PID") != Some(libc::getpid()) {
+        return Ok(0);
+    }
+    let count = match env::var(rt, "LISTEN_FDS") {
+        Ok(text) => count_of(text.as_str()),
+        Err(VarError::NotPresent) => Some(0),
+        Err(VarError::OutOfMemory) => return Err(ProgramFault::NoMemory),
+        Err(VarError::NotUnicode) => None,
+    };
+    if let Some(count) = count {
+        return Ok(count);
+    }
+    if tells {
+        let _ = eprintln!(rt; "hole: can't listen: LISTEN_FDS isn't a number up to 64");
+    }
+    Err(ProgramFault::ListenFailed)
 }
 
 // Whether a descriptor is a TCP socket: nothing else has this option.
@@ -114,7 +136,7 @@ fn inherited<R: Env + Eprint + AllocGlobal>(
     ensures { IfErr result IsServingFault }
 {
     let mut listeners = Vec::new(alloc);
-    for index in 0..inherited_count(rt) {
+    for index in 0..inherited_count(rt, tells)? {
         let descriptor = FIRST_INHERITED.saturating_add(index);
         if !is_tcp(descriptor) {
             if tells {
@@ -159,12 +181,13 @@ fn listen_at_all<R: Net + Eprint>(
 /// listens at each address of the host of `home`. The `accept` of a listener never blocks.
 ///
 /// If systemd's socket activation hands sockets to the process, it uses these instead of addresses.
-/// Each has to be a TCP socket. If `tells`, it prints on the error stream of `rt` which isn't, or
-/// which address can't be bound, and why. One that can is enough.
+/// They are at most 64 TCP sockets. If `tells`, it prints on the error stream of `rt` what else was
+/// handed over, or which address can't be bound, and why. One that can is enough.
 ///
 /// # Errors
 ///
-/// - `ListenFailed` (81): no address can be bound, or what was handed over isn't a TCP socket.
+/// - `ListenFailed` (81): no address can be bound, what was handed over isn't a TCP socket, or the
+///   number of sockets can't be read or is over 64.
 /// - `NoMemory` (90).
 pub fn listen<R: Net + Env + Eprint + AllocGlobal>(
     rt: &R,
