@@ -113,15 +113,15 @@ class Site:
         with open(place, "wb") as file:
             file.write(content)
 
-    def check(self, before=()):
+    def check(self, *words, before=()):
         """The report, standard error and status, without the addresses of the host (tests/listen.py) and what a search finds
         (tests/survey.py)."""
-        output, error, status = self.test.run("check", self.settings, before=before, user=self.user)
+        output, error, status = self.test.run("check", self.settings, *words, before=before, user=self.user)
         return b"".join(line for line in output.splitlines(True) if not ELSEWHERE.match(line)), error, status
 
     def lines(self, *names, before=()):
         """The lines of the report that begin with these names, standard error and status."""
-        output, error, status = self.check(before)
+        output, error, status = self.check(before=before)
         return [line for line in output.decode().splitlines() if line.split(": ")[0] in names], error, status
 
     def serve(self):
@@ -199,6 +199,12 @@ WORKERS = (OUT_OF_RANGE, "use a number from 1 to 16")
 PORTS = (OUT_OF_RANGE, "use a number from 1 to 65535")
 AT_MOST = "use at most 256 tables, with {}a host, a port from 1 to 65535, and a {} of at most 255 bytes"
 SEEDS, RULES = (OUT_OF_RANGE, AT_MOST.format("type 0 or 1, ", "selector")), (OUT_OF_RANGE, AT_MOST.format("", "prefix"))
+# Each key but arrays in the order of their checks, a value out of range, and the remedy.
+OUT = [
+    ("host", '""', "give the name or the address of the server, without spaces or control characters"), ("port", 0, PORTS[1]),
+    ("root", '""', "give the path of a folder"), ("places", 0, "use a number from 1 to 65536"), ("workers", 17, WORKERS[1]),
+    ("threads", 9, "use a number from 1 to 8"), ("tries", 6, "use a number from 1 to 5"),
+]
 FAULTS = {
     "a name with a TAB": (put(b"docs/a\tb.txt"), "20 file 0", "ROOT/docs/a\\tb.txt", BAD_NAME),
     "a name with an LF": (put(b"z\n"), "20 file 0", "ROOT/z\\n", BAD_NAME),
@@ -261,7 +267,14 @@ FAULTS = {
     "too many rules, one without a host": (more('[[allow]]\n' * 257), "33 allow", "FILE", RULES, "key: allow"),
     "a port out of range": (say(HEAD + 'port = 65536\nroot = "ROOT"\n'), "33 port", "FILE", PORTS, "key: port"),
     "no workers": (more("workers = 0\n"), "33 workers", "FILE", WORKERS, "key: workers"),
+    "each key out of range": (
+        say("".join(f"{key} = {value}\n" for key, value, _ in OUT) + 'deny = [{ host = "" }]\n'), "33 host",
+        b"".join(report("33", "FILE", (OUT_OF_RANGE, remedy), f"key: {key}") for key, _, remedy in OUT[:3])
+        + report("33", "FILE", RULES, "key: deny[0].host")
+        + b"".join(report("33", "FILE", (OUT_OF_RANGE, remedy), f"key: {key}") for key, _, remedy in OUT[3:]),
+    ),
     "a key that isn't known": (more("prot = 70\n"), "34", "FILE", UNKNOWN, "key: prot"),
+    "a key without a name": (more('"" = 1\n'), "34", "FILE", UNKNOWN),
     "two keys that aren't known, one with a TAB": (
         more('zebra = 1\n"a\\tb" = 2\n[[deny]]\nhosts = 1\n'), "34",
         report("34", "FILE", UNKNOWN, "key: a\\tb") + report("34", "FILE", UNKNOWN, "key: zebra")
@@ -454,6 +467,21 @@ def check_warnings(test):
     test.expect("what isn't served", site.lines("warning"), ([LEFT.format(3, 3, 2)], b"", 0))
 
 
+def check_left_out(test):
+    """What `--leave-out` leaves out has a line each and counts as a warning. Nothing is left out if a menu file
+    would be."""
+    site = Site(test, {"a.txt": b"a\n"})
+    site.add(b"b\tc")
+    site.add(b"z/d\re")
+    left = f"left out: 20 {site.root}/b\\tc\nleft out: 20 {site.root}/z/d\\re\n".encode()
+    output, *ended = site.check("--leave-out")
+    test.expect("two files that are left out", (left in output, *ended), (True, b"", 0))
+    test.expect("the same, and --strict", site.check("--leave-out", "--strict")[1:], (b"hole: 83\n", 1))
+    site.add(b"z/.menu")
+    os.truncate(site.root / "z/.menu", LARGEST + 1)
+    test.expect("a menu file that is too large, and --leave-out", site.check("--leave-out"), site.check())
+
+
 def check_output(test):
     """Checks a sound site and a fault with an output that can't be written."""
     for files, line in ({}, b"hole: 13\n"), ({"search": b""}, b"hole: 21 file 0\n"):
@@ -510,8 +538,8 @@ def check_vanishing(test):
 
 
 CHECKS = (
-    check_sound, check_warnings, check_faults, check_lines, check_limits, check_closed, check_output, check_neither, check_kernel,
-    check_vanishing,
+    check_sound, check_warnings, check_faults, check_lines, check_limits, check_left_out, check_closed, check_output, check_neither,
+    check_kernel, check_vanishing,
 )
 
 if __name__ == "__main__":

@@ -15,8 +15,8 @@ use crate::opening::settings_text;
 use addresses::{Listening, addresses};
 use aliases::{AliasReport, alias_report, push_aliases};
 use gopher_check::survey_site;
-use gopher_item::{NoMemory, first_line};
-use gopher_scope::{Report, SiteFault, SoundSite, check, unreadable};
+use gopher_item::NoMemory;
+use gopher_scope::{FaultReport, Report, SiteFault, SoundSite, Summary, check, unreadable};
 use gopher_text::Watched;
 use seeds::push_lost_seeds;
 use std::alloc::Global;
@@ -37,15 +37,13 @@ struct SoundReport {
 }
 
 // Whether a report tells that a menu file is left out.
-fn leaves_out_menu(words: &[u8]) -> bool {
-    let mut rest = words;
-    while let Some((line, after)) = first_line(rest) {
-        if line.starts_with(b"left out: ") && line.ends_with(b"/.menu") {
-            return true;
-        }
-        rest = after;
+fn leaves_out_menu(report: &Report) -> bool {
+    match report {
+        Report::Faulty(_faults) => false,
+        Report::Sound(site) => site.left_out.iter().any(|left| left.path.as_slice()
+            == b".menu".as_slice()
+            || left.path.ends_with(b"/.menu")),
     }
-    false
 }
 
 // The report on a text of settings. As in a server, nothing is left out if a menu file would be.
@@ -56,7 +54,7 @@ fn text_report<R: Files>(
     text: &str,
 ) -> Result<Report, NoMemory> {
     let report = check(rt, alloc, checking.settings, text, checking.leave_out)?;
-    if checking.leave_out && leaves_out_menu(&report.words) {
+    if checking.leave_out && leaves_out_menu(&report) {
         return check(rt, alloc, checking.settings, text, false);
     }
     Ok(report)
@@ -83,17 +81,19 @@ fn is_of_settings(fault: SiteFault) -> bool {
     )
 }
 
-// The report on a site that starts. It begins with these words, which tell this number of warnings.
+// The report on a site that starts.
 fn sound_report<R: Files + Net>(
     rt: &R,
     alloc: Global,
     checking: &Checking<'_>,
-    (words, warnings): (&[u8], usize),
     site: SoundSite,
     aliases: &[u8],
 ) -> Result<SoundReport, NoMemory> {
-    let SoundSite { settings, tree } = site;
-    let mut words = Vec::from_slice(alloc, words)?;
+    let Summary {
+        mut words,
+        warnings,
+    } = site.summary(alloc, checking.settings)?;
+    let SoundSite { settings, tree, .. } = site;
     let Listening {
         words: lines,
         is_fine,
@@ -141,14 +141,20 @@ fn tell_sound<W: Write>(
     end_report(output, is_strict && report.warnings > 0)
 }
 
-// Writes the report on a site with a fault, as far as it can be written. Returns the fault.
-fn tell_fault<W: Write>(
-    output: &mut Watched<W>,
-    words: &[u8],
-    fault: ProgramFault,
-) -> ProgramFault {
+// Writes lines that tell of a fault, as far as they can be written. Returns the fault.
+fn tell<W: Write>(output: &mut Watched<W>, words: &[u8], fault: ProgramFault) -> ProgramFault {
     let _unsent = send_text(output, words);
     fault
+}
+
+// Writes the report on a site with a fault, as far as it can be written. Returns the fault.
+fn tell_fault<W: Write>(
+    alloc: Global,
+    output: &mut Watched<W>,
+    report: &FaultReport,
+) -> Result<ProgramFault, NoMemory> {
+    let words = report.words(alloc)?;
+    Ok(tell(output, &words, ProgramFault::Site(report.fault)))
 }
 
 /// Checks the settings in a file, their folder and the file of aliases as a server would, and
@@ -169,28 +175,21 @@ pub fn check_site<R: Files + Net, W: Write>(
 ) -> Result<(), ProgramFault>
     ensures { OnOk result (FoundSound W.contents output.old output.new) }
 {
-    let Report {
-        words,
-        fault,
-        warnings,
-        site,
-    } = file_report(rt, alloc, checking)?;
-    if let Some(fault) = fault
-        && is_of_settings(fault)
+    let report = file_report(rt, alloc, checking)?;
+    if let Report::Faulty(faults) = &report
+        && is_of_settings(faults.fault)
     {
-        return Err(tell_fault(output, &words, ProgramFault::Site(fault)));
+        return Err(tell_fault(alloc, output, faults)?);
     }
     let aliases = match alias_report(rt, alloc, checking.aliases)? {
         AliasReport::Sound(text) => text,
-        AliasReport::Faulty(told, fault) => return Err(tell_fault(output, &told, fault)),
+        AliasReport::Faulty(told, fault) => return Err(tell(output, &told, fault)),
     };
-    if let Some(fault) = fault {
-        return Err(tell_fault(output, &words, ProgramFault::Site(fault)));
+    match report {
+        Report::Faulty(faults) => Err(tell_fault(alloc, output, &faults)?),
+        Report::Sound(site) => {
+            let sound = sound_report(rt, alloc, checking, site, &aliases)?;
+            tell_sound(output, &sound, checking.strict)
+        }
     }
-    let Some(site) = site else {
-        return Err(ProgramFault::NoMemory);
-    };
-    let told = words.strip_suffix(SOUND).unwrap_or(&words);
-    let sound = sound_report(rt, alloc, checking, (told, warnings), site, &aliases)?;
-    tell_sound(output, &sound, checking.strict)
 }

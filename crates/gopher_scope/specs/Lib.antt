@@ -2,8 +2,9 @@ pub mod Rows
 pub mod Settings
 pub mod Fault
 pub mod Lines
+pub mod Warnings
+pub mod Finding
 pub mod Report
 pub mod Values
 pub mod Unknown
 pub mod Obstacle
-pub mod Explained

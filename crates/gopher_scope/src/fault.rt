@@ -3,7 +3,6 @@
 
 ghost use Rattle.std.specs.Prelude.{◌≡◌};
 ghost use Rattle.gopher_scope.specs.Fault.{settings_fault_code, site_fault_code};
-ghost use Rattle.gopher_scope.specs.Explained.{explained, range_remedy, settings_explained, tree_explained};
 
 use crate::report::{Obstacle, SettingsObstacle};
 use crate::settings::Key;
@@ -85,9 +84,7 @@ pub enum SiteFault {
     KeyTwice,
 }
 
-fn explain_tree(fault: TreeFault, obstacle: Obstacle) -> (&'static str, &'static str)
-    ensures { (result.0.now, result.1.now) ≡ tree_explained fault obstacle }
-{
+fn explain_tree(fault: TreeFault, obstacle: Obstacle) -> (&'static str, &'static str) {
     match fault {
         TreeFault::BadName { .. } => (
             "a name in this path contains a TAB, CR or LF, or a folder is named .menu",
@@ -115,9 +112,7 @@ fn explain_tree(fault: TreeFault, obstacle: Obstacle) -> (&'static str, &'static
 }
 
 // What the value of a key may be.
-fn range_remedy(key: Key) -> &'static str
-    ensures { result.now ≡ range_remedy key }
-{
+fn range_remedy(key: Key) -> &'static str {
     match key {
         Key::Host =>
             "give the name or the address of the server, without spaces or control characters",
@@ -134,9 +129,7 @@ fn range_remedy(key: Key) -> &'static str
     }
 }
 
-fn explain_settings(fault: SettingsFault) -> (&'static str, &'static str)
-    ensures { (result.0.now, result.1.now) ≡ settings_explained fault }
-{
+fn explain_settings(fault: SettingsFault) -> (&'static str, &'static str) {
     match fault {
         SettingsFault::NotToml => (
             "the settings aren't valid TOML",
@@ -177,9 +170,7 @@ impl SiteFault {
     }
 
     /// Returns the cause of the fault and its remedy: one line each, without its LF.
-    pub fn explain(self) -> (&'static str, &'static str)
-        ensures { (result.0.now, result.1.now) ≡ explained self }
-    {
+    pub fn explain(self) -> (&'static str, &'static str) {
         match self {
             SiteFault::Settings(fault) => explain_settings(fault),
             SiteFault::Tree(fault, obstacle) => explain_tree(fault, obstacle),

@@ -1,41 +1,60 @@
 //! The report of `hole check`: on settings, their folder and their seeds; and which line or key it
 //! names.
 
-ghost use Rattle.std.specs.Prelude.{◌≡◌, [], None, Some, IfOk, IfSome, OnOk};
+ghost use Rattle.std.specs.Prelude.{◌≡◌, [], ◌∷◌, ◌++◌, None, Some, Ok, IfOk, IfSome};
 ghost use Rattle.toml.specs.View.{table_view};
 ghost use Rattle.gopher_item.specs.Scope.{first_outside};
 ghost use Rattle.gopher_scope.specs.Settings.{settings_data};
-ghost use Rattle.gopher_scope.specs.Lines.{Puts};
-ghost use Rattle.gopher_scope.specs.Report.{hint_line, line_of_fault, AddsWholeSite, LoadsAs, IsReportOf, IsReportOnUnread, IsReportOnFolder, IsReportOnBroken, IsReportOnMemory, IsReportOnSite, IsReportOnTable, IsReportOnText, key_of, toml_fault_line, IsKeyOf, IsTomlFault};
+ghost use Rattle.gopher_scope.specs.Finding.{line_of_fault, table_findings};
+ghost use Rattle.gopher_scope.specs.Report.{hint, LoadsAs, IsReport, IsRemark, IsReportOnUnread, IsReportOnFolder, IsReportOnBroken, IsReportOnLoaded, IsReportOnMemory, IsReportOnSite, IsReportOnTable, IsReportOnText, key_of, toml_fault_line, IsKeyOf, IsTomlFault};
 
 mod fault_report;
+mod fault_words;
+mod finding;
 mod lines;
 mod links;
 mod obstacle;
 mod settings_obstacle;
-mod site_report;
+mod site_warning;
+mod site_words;
+mod sound_site;
 mod table_report;
 mod whole_site;
 
-use crate::fault::{Pushed, SettingsFault, SiteFault};
+use crate::fault::{SettingsFault, SiteFault};
 use crate::settings::Settings;
-pub use fault_report::{Report, SoundSite};
-use fault_report::{Reported, report_fault};
+pub use fault_report::FaultReport;
+use fault_report::{Remark, report_fault, report_with};
 use gopher_item::{NoMemory, Place, Scope, split_once, trim_spaces};
 use gopher_tree::{LeftOut, Trail, Tree, TreeFault};
-pub use lines::{push_shown, push_words};
+pub use lines::push_shown;
 pub use links::{is_asked, is_own};
 pub use obstacle::Obstacle;
 use obstacle::reason;
 pub use settings_obstacle::SettingsObstacle;
 use settings_obstacle::settings_obstacle;
-use site_report::site_report;
+pub use site_warning::{SiteMistake, SiteWarning, Unserved};
+pub use site_words::Summary;
+pub use sound_site::SoundSite;
+use sound_site::unserved_of;
 use std::alloc::Global;
 use std::fs::Files;
-use table_report::table_report;
+use table_report::table_findings;
 use toml::Table;
 use toml::de::Error as TomlFault;
 use whole_site::whole_site;
+
+/// The report of a check.
+#[derive(Debug, Drop)]
+pub enum Report {
+    /// The site has a fault.
+    Faulty(FaultReport),
+    /// The site has none.
+    Sound(SoundSite),
+}
+
+/// The report of a check, unless memory ran out.
+pub(crate) type Reported = Result<Report, NoMemory>;
 
 // The message of the TOML parser for a key that is given twice.
 const DUPLICATE: &str = "duplicate key";
@@ -67,37 +86,37 @@ fn line_of_fault(fault: TreeFault) -> Option<usize>
     }
 }
 
-// Appends the line that says why a root that begins with `~` isn't there.
-fn push_hint(root: &str, how: Obstacle, out: &mut Vec<u8>) -> Pushed
-    ensures { Puts (hint_line root.now how) out.old out.new result }
+// The remark that the root, which begins with `~` and isn't there, was meant to be expanded.
+fn hint(root: &str, how: Obstacle) -> Remark
+    ensures { result ≡ hint root.now how }
 {
     match (root.as_bytes(), how) {
-        ([b'~', ..], Obstacle::Missing) => {
-            out.extend_from_slice(b"hint: ~ isn't expanded in root; write the whole path\n")
-        }
-        _ => Ok(()),
+        ([b'~', ..], Obstacle::Missing) => Remark::Tilde,
+        _ => Remark::Nothing,
     }
 }
 
-// Appends the line that says how much the whole folder `root` has, if that is over a limit of the
-// whole site.
-fn push_whole_site<R: Files>(
-    rt: &R,
-    alloc: Global,
-    root: &str,
-    how: Obstacle,
-    out: &mut Vec<u8>,
-) -> Result<(), NoMemory>
-    ensures { OnOk result (AddsWholeSite how out.old out.new) }
+// What a report adds to a fault of the folder `root`: how much the whole folder has, if that is
+// over a limit of the whole site, or a hint.
+fn remark<R: Files>(rt: &R, alloc: Global, root: &str, how: Obstacle) -> Result<Remark, NoMemory>
+    ensures { IfOk result (IsRemark root.now how) }
 {
     match how {
         Obstacle::LargeSite(_) | Obstacle::ManyNodes(_) => {
-            let said = whole_site(rt, alloc, root)?;
-            push_words(b"whole site: ", &said, out)?;
-            Ok(())
+            Ok(Remark::WholeSite(whole_site(rt, alloc, root)?))
         }
-        _ => Ok(()),
+        _ => Ok(hint(root, how)),
     }
+}
+
+// The path of the file or folder at the end of a trail.
+fn place_of(alloc: Global, root: &str, trail: &Trail) -> Result<Vec<u8>, NoMemory>
+    ensures { IfOk result (λ place. place.items ≡ root.now ++ 47 ∷ trail.now.path.items) }
+{
+    let mut place = Vec::from_slice(alloc, root.as_bytes())?;
+    place.extend_from_slice(b"/")?;
+    place.extend_from_slice(&trail.path)?;
+    Ok(place)
 }
 
 // The report of a fault of the folder `root`, at the end of the trail that its walk left.
@@ -110,15 +129,12 @@ fn folder_report<R: Files>(
 ) -> Reported
     ensures { IfOk result (IsReportOnFolder fault root.now trail.now) }
 {
-    let mut place = Vec::from_slice(alloc, root.as_bytes())?;
-    place.extend_from_slice(b"/")?;
-    place.extend_from_slice(&trail.path)?;
-    let how = reason(rt, alloc, fault, trail, &place);
+    let path = place_of(alloc, root, trail)?;
+    let how = reason(rt, alloc, fault, trail, &path);
+    let remark = remark(rt, alloc, root, how)?;
     let line = line_of_fault(fault);
-    let mut report = report_fault(alloc, SiteFault::Tree(fault, how), &place, line, b"")?;
-    push_hint(root, how, &mut report.words)?;
-    push_whole_site(rt, alloc, root, how, &mut report.words)?;
-    Ok(report)
+    let fault = SiteFault::Tree(fault, how);
+    report_with(alloc, fault, &path, line, b"", remark)
 }
 
 // Loads the folder `root`. If `leave_out` is set, `left` gets what can't be served.
@@ -140,6 +156,30 @@ fn load<R: Files>(
     }
 }
 
+// The report on settings whose folder has no fault: on the site, or on the first seed that the
+// scope doesn't allow.
+fn seeds_report(
+    alloc: Global,
+    path: &[u8],
+    settings: Settings,
+    tree: Tree,
+    trail: &Trail,
+    left_out: Vec<LeftOut>,
+) -> Reported
+    ensures { IfOk result (IsReportOnLoaded path.now (settings_data settings) trail.now
+        left_out.items (Ok tree)) }
+{
+    match first_outside(&settings.scope, &settings.seeds) {
+        Some(seed) => report_fault(alloc, SiteFault::SeedOutOfScope(seed), path, None, b""),
+        None => Ok(Report::Sound(SoundSite {
+            unserved: unserved_of(&tree, trail),
+            settings,
+            tree,
+            left_out,
+        })),
+    }
+}
+
 // The report on settings and their folder, of which what can't be served may be left out.
 fn settings_report<R: Files>(
     rt: &R,
@@ -153,13 +193,9 @@ fn settings_report<R: Files>(
     let mut trail = Trail::new(alloc);
     let mut left = Vec::new(alloc);
     let root = settings.root.as_str();
-    let tree = match load(rt, alloc, root, leave_out, &mut trail, &mut left) {
-        Ok(tree) => tree,
-        Err(fault) => return folder_report(rt, alloc, root, fault, &trail),
-    };
-    match first_outside(&settings.scope, &settings.seeds) {
-        Some(seed) => report_fault(alloc, SiteFault::SeedOutOfScope(seed), path, None, b""),
-        None => site_report(alloc, path, settings, tree, &trail, &left),
+    match load(rt, alloc, root, leave_out, &mut trail, &mut left) {
+        Ok(tree) => seeds_report(alloc, path, settings, tree, &trail, left),
+        Err(fault) => folder_report(rt, alloc, root, fault, &trail),
     }
 }
 
@@ -222,6 +258,19 @@ fn memory_report(alloc: Global, path: &[u8]) -> Reported
     report_fault(alloc, fault, path, None, b"")
 }
 
+// The report on all faults of a table of settings, of which `refused` is the first.
+fn faults_report(alloc: Global, path: &[u8], table: &Table, refused: SettingsFault) -> Reported
+    ensures { IfOk result (IsReport (SiteFault.Settings refused) path.now
+        (table_findings (table_view table.now)) Remark.Nothing) }
+{
+    Ok(Report::Faulty(FaultReport {
+        fault: SiteFault::Settings(refused),
+        path: Vec::from_slice(alloc, path)?,
+        findings: table_findings(alloc, table)?,
+        remark: Remark::Nothing,
+    }))
+}
+
 // The report on a table of settings: on its site, or on all faults of the table.
 fn checked_table<R: Files>(
     rt: &R,
@@ -235,19 +284,14 @@ fn checked_table<R: Files>(
     match Settings::of_table(alloc, table) {
         Ok(settings) => settings_report(rt, alloc, path, settings, leave_out),
         Err(SettingsFault::NoMemory) => memory_report(alloc, path),
-        Err(refused) => Ok(Report {
-            words: table_report(alloc, path, table)?,
-            fault: Some(SiteFault::Settings(refused)),
-            warnings: 0,
-            site: None,
-        }),
+        Err(refused) => faults_report(alloc, path, table, refused),
     }
 }
 
 /// Checks the settings in `text`, the folder that they name, and their seeds. `path` is the path of
 /// the settings file, for the report.
 ///
-/// The report names the first fault in this order: of the settings (30 to 34), of the folder (20 to
+/// The report has the first fault in this order: of the settings (30 to 34), of the folder (20 to
 /// 26), of the seeds (50). For 30 it also names the line at which the TOML parser's fault begins,
 /// and the key there if it is given twice. After the first of 31 to 34 it names the others, and for
 /// 31 to 33 in an array the index of the table and its key. For 23 it names the limit and the
@@ -256,9 +300,6 @@ fn checked_table<R: Files>(
 ///
 /// If `leave_out` is set, what can't be served is left out of the tree, as by
 /// `Tree::load_leaving_out`, and the report lists it.
-///
-/// The report on a site without a fault counts its warnings, and returns the settings and the tree
-/// of the folder.
 pub fn check<R: Files>(
     rt: &R,
     alloc: Global,

@@ -1,6 +1,6 @@
 //! Appending one line to a report: texts in their shown form, numbers, addresses.
 
-ghost use Rattle.gopher_scope.specs.Lines.{Puts, shown_byte, shown, words_line, count_words, number_line, server_words, place_rest};
+ghost use Rattle.gopher_scope.specs.Lines.{Puts, shown_byte, shown};
 
 use crate::fault::Pushed;
 use gopher_item::is_control;
@@ -32,44 +32,34 @@ pub fn push_shown(bytes: &[u8], out: &mut Vec<u8>) -> Pushed
 }
 
 /// Appends a line: the name of a value, and its text.
-pub fn push_words(front: &[u8], words: &[u8], out: &mut Vec<u8>) -> Pushed
-    ensures { Puts (words_line front.now words.now) out.old out.new result }
-{
+pub fn push_words(front: &[u8], words: &[u8], out: &mut Vec<u8>) -> Pushed {
     out.extend_from_slice(front)?;
     push_shown(words, out)?;
     out.extend_from_slice(b"\n")
 }
 
 /// Appends a text and a number.
-pub fn push_count(front: &[u8], number: usize, out: &mut Vec<u8>) -> Pushed
-    ensures { Puts (count_words front.now number) out.old out.new result }
-{
+pub fn push_count(front: &[u8], number: usize, out: &mut Vec<u8>) -> Pushed {
     let mut digits = Buffer::new();
     out.extend_from_slice(front)?;
     out.extend_from_slice(digits.format(number).as_bytes())
 }
 
 /// Appends a line: the name of a value, and its number.
-pub fn push_number(front: &[u8], number: usize, out: &mut Vec<u8>) -> Pushed
-    ensures { Puts (number_line front.now number) out.old out.new result }
-{
+pub fn push_number(front: &[u8], number: usize, out: &mut Vec<u8>) -> Pushed {
     push_count(front, number, out)?;
     out.extend_from_slice(b"\n")
 }
 
 /// Appends a host and a port.
-pub fn push_server(host: &[u8], port: u16, out: &mut Vec<u8>) -> Pushed
-    ensures { Puts (server_words host.now port) out.old out.new result }
-{
+pub fn push_server(host: &[u8], port: u16, out: &mut Vec<u8>) -> Pushed {
     push_shown(host, out)?;
     push_count(b" ", usize::from(port), out)?;
     Ok(())
 }
 
 /// Appends the rest of a line: a host, a port, and a selector or a prefix of selectors.
-pub fn push_address(host: &[u8], port: u16, selector: &[u8], out: &mut Vec<u8>) -> Pushed
-    ensures { Puts (place_rest host.now port selector.now) out.old out.new result }
-{
+pub fn push_address(host: &[u8], port: u16, selector: &[u8], out: &mut Vec<u8>) -> Pushed {
     push_server(host, port, out)?;
     push_words(b" ", selector, out)
 }

@@ -4,9 +4,10 @@ ghost use Rattle.std.specs.Prelude.{◌≡◌, map, IfOk};
 ghost use Rattle.gopher_tree.specs.Files.{menu_files};
 ghost use Rattle.gopher_tree.specs.Found.{lent_file};
 ghost use Rattle.gopher_tree.specs.MenuFile.{written_line, line_data, server_data};
-ghost use Rattle.gopher_scope.specs.Lines.{Puts, is_asked, is_own, is_dead, place_words, dead_line, offers, menu_offers, offers_search, line_warning, menu_warnings, dead_lines};
+ghost use Rattle.gopher_scope.specs.Lines.{Puts, is_asked, is_own};
+ghost use Rattle.gopher_scope.specs.Warnings.{is_dead, offers, menu_offers, offers_search, line_warning, menu_warnings, dead_lines};
 
-use super::lines::{push_count, push_shown, push_words};
+use super::site_warning::{SiteMistake, SiteWarning};
 use crate::fault::Pushed;
 use gopher_item::{Home, NoMemory, first_line};
 use gopher_tree::{Tree, WrittenLine, written_line};
@@ -16,20 +17,19 @@ use std::marker::Model;
 // The selector of the search.
 const SEARCH: &[u8] = b"/search";
 
-/// The server's address, the root as the settings spell it, and the tree of its files.
+/// The server's address, and the tree of its files.
 #[derive(Debug, Drop)]
 pub struct Site<'a> {
     pub home: &'a Home,
-    pub root: &'a str,
     pub tree: &'a Tree,
 }
 
 impl<'a> Model for Site<'a> {
-    ghost use Rattle.gopher_scope.specs.Lines.{CheckedSite};
+    ghost use Rattle.gopher_scope.specs.Warnings.{CheckedSite};
 
     ghost Value = { CheckedSite };
 
-    ghost view = { λ s. record { home = s.home.now; root = s.root.now; files = s.tree.now } };
+    ghost view = { λ s. record { home = s.home.now; files = s.tree.now } };
 }
 
 /// Returns whether a line of a menu is of the server with this address: it names no server, or this
@@ -62,39 +62,36 @@ fn is_dead(site: &Site<'_>, line: WrittenLine<'_>) -> bool
         && site.tree.find(line.selector).is_none()
 }
 
-/// Appends the path of a file or folder below a root.
-pub fn push_place(root: &str, path: &[u8], out: &mut Vec<u8>) -> Pushed
-    ensures { Puts (place_words root.now path.now) out.old out.new result }
-{
-    push_shown(root.as_bytes(), out)?;
-    out.extend_from_slice(b"/")?;
-    push_shown(path, out)
-}
-
-// Appends the warning of a line that leads nowhere.
-fn push_dead(root: &str, path: &[u8], number: usize, selector: &[u8], out: &mut Vec<u8>) -> Pushed
-    ensures { Puts (dead_line root.now path.now number selector.now) out.old out.new result }
-{
-    push_count(b"warning: line ", number, out)?;
-    out.extend_from_slice(b" of ")?;
-    push_place(root, path, out)?;
-    push_words(b" leads nowhere: ", selector, out)
-}
-
 // Appends the warning of a line of the menu file at a path, if it leads nowhere.
-fn push_line(site: &Site<'_>, path: &[u8], number: usize, line: &[u8], out: &mut Vec<u8>) -> Pushed
+fn push_line<'a>(
+    site: &Site<'_>,
+    path: &'a [u8],
+    number: usize,
+    line: &'a [u8],
+    out: &mut Vec<SiteWarning<'a>>,
+) -> Pushed
     ensures { Puts (line_warning site.now path.now number line.now) out.old out.new result }
 {
-    match written_line(line) {
-        Some(line) if is_dead(site, line) => {
-            push_dead(site.root, path, number, line.selector, out)
-        }
-        _ => Ok(()),
+    if let Some(line) = written_line(line)
+        && is_dead(site, line)
+    {
+        out.push(SiteWarning {
+            path,
+            line: number,
+            selector: line.selector,
+            mistake: SiteMistake::LeadsNowhere,
+        })?;
     }
+    Ok(())
 }
 
 // Appends the warnings of the menu file at a path.
-fn push_menu(site: &Site<'_>, path: &[u8], menu: &[u8], out: &mut Vec<u8>) -> Pushed
+fn push_menu<'a>(
+    site: &Site<'_>,
+    path: &'a [u8],
+    menu: &'a [u8],
+    out: &mut Vec<SiteWarning<'a>>,
+) -> Pushed
     ensures { Puts (menu_warnings site.now (path.now, menu.now)) out.old out.new result }
 {
     let mut number = 0;
@@ -108,7 +105,11 @@ fn push_menu(site: &Site<'_>, path: &[u8], menu: &[u8], out: &mut Vec<u8>) -> Pu
 }
 
 /// Appends a warning for each line of the site's menu files that leads to nothing on its server.
-pub fn push_dead_lines(site: &Site<'_>, menus: &[(&[u8], &[u8])], out: &mut Vec<u8>) -> Pushed
+pub fn push_dead_lines<'a>(
+    site: &Site<'_>,
+    menus: &[(&'a [u8], &'a [u8])],
+    out: &mut Vec<SiteWarning<'a>>,
+) -> Pushed
     requires { map lent_file menus.now ≡ menu_files site.now.files }
     ensures { Puts (dead_lines site.now) out.old out.new result }
 {

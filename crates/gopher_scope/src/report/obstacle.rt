@@ -3,7 +3,6 @@
 ghost use Rattle.std.specs.Prelude.{◌≡◌, IfErr, IfOk};
 ghost use Rattle.std.specs.IoError.{error_kind};
 ghost use Rattle.gopher_scope.specs.Obstacle.{excess, obstacle_of, IsReason};
-ghost use Rattle.gopher_scope.specs.Explained.{obstacle_explained};
 
 use gopher_tree::{MAX_BYTES, MAX_FILE, Trail, TreeFault};
 use std::alloc::{AllocGlobal, Global};
@@ -37,9 +36,7 @@ pub enum Obstacle {
 
 impl Obstacle {
     /// Returns the cause and the remedy in words.
-    pub fn explain(self) -> (&'static str, &'static str)
-        ensures { (result.0.now, result.1.now) ≡ obstacle_explained self }
-    {
+    pub fn explain(self) -> (&'static str, &'static str) {
         match self {
             Obstacle::NotUtf8 => (
                 "a name in this folder isn't UTF-8",

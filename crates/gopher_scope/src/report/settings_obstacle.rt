@@ -4,7 +4,6 @@ ghost use Rattle.std.specs.Prelude.{◌≡◌, IfErr, IfOk};
 ghost use Rattle.std.specs.IoError.{error_kind};
 ghost use Rattle.std.specs.Str.{IsUtf8};
 ghost use Rattle.gopher_scope.specs.Obstacle.{settings_obstacle_of};
-ghost use Rattle.gopher_scope.specs.Explained.{unread_explained};
 
 use std::alloc::Global;
 use std::fs::{self, Files};
@@ -36,9 +35,7 @@ pub enum SettingsObstacle {
 
 impl SettingsObstacle {
     /// Returns the cause and the remedy in words.
-    pub fn explain(self) -> (&'static str, &'static str)
-        ensures { (result.0.now, result.1.now) ≡ unread_explained self }
-    {
+    pub fn explain(self) -> (&'static str, &'static str) {
         match self {
             SettingsObstacle::Missing => ("no file exists at this path", "correct the path"),
             SettingsObstacle::Denied => (

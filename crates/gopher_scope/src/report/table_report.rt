@@ -1,56 +1,72 @@
-//! The reports of all faults of a table of settings.
+//! The report on a table of settings that has faults: on all of them.
 
-ghost use Rattle.std.specs.Prelude.{◌≡◌, IfOk};
-ghost use Rattle.std.specs.List.{flat_map};
+ghost use Rattle.std.specs.Prelude.{◌≡◌, IfOk, map};
 ghost use Rattle.toml.specs.View.{table_view};
 ghost use Rattle.gopher_scope.specs.Lines.{Puts};
-ghost use Rattle.gopher_scope.specs.Report.{unknown_report, key_reports, table_report};
+ghost use Rattle.gopher_scope.specs.Finding.{unknown_finding, value_finding, key_findings, table_findings};
 
-use super::fault_report::push_fault;
+use super::finding::{Finding, detail_of};
 use crate::fault::{Pushed, SettingsFault, SiteFault};
-use crate::settings::{Key, UnknownKey, key_fault, unknown_keys};
+use crate::settings::{Key, Spot, UnknownKey, key_fault, unknown_keys};
 use gopher_item::NoMemory;
-use std::alloc::Global;
+use std::alloc::{AllocError, Global};
 use toml::Table;
 
-// Appends the report of an unknown key.
-fn push_unknown(path: &[u8], key: &UnknownKey<'_>, out: &mut Vec<u8>) -> Pushed
-    ensures { Puts (unknown_report path.now key.now) out.old out.new result }
+// The finding of an unknown key.
+fn unknown_finding(alloc: Global, key: &UnknownKey<'_>) -> Result<Finding, AllocError>
+    ensures { IfOk result (λ finding. finding ≡ unknown_finding key.now) }
 {
     let fault = SiteFault::Settings(SettingsFault::UnknownKey);
-    push_fault(fault, path, None, None, key.array, key.name.as_bytes(), out)
+    Ok(Finding {
+        fault,
+        line: None,
+        detail: detail_of(fault, None, key.array),
+        name: Vec::from_slice(alloc, key.name.as_bytes())?,
+    })
 }
 
-// Appends the report of each of these unknown keys.
-fn push_all_unknown(path: &[u8], keys: &[UnknownKey<'_>], out: &mut Vec<u8>) -> Pushed
-    ensures { Puts (flat_map (unknown_report path.now) keys.now) out.old out.new result }
+// Appends the finding of each of these unknown keys.
+fn push_all_unknown(alloc: Global, keys: &[UnknownKey<'_>], out: &mut Vec<Finding>) -> Pushed
+    ensures { Puts (map unknown_finding keys.now) out.old out.new result }
 {
     for key in keys {
-        push_unknown(path, key, out)?;
+        out.push(unknown_finding(alloc, key)?)?;
     }
     Ok(())
 }
 
-// Appends the report of the fault of each of these keys that has one.
-fn push_keys(path: &[u8], table: &Table, keys: &[Key], out: &mut Vec<u8>) -> Pushed
-    ensures { Puts (key_reports path.now (table_view table.now) keys.now) out.old out.new result }
+// The finding of the fault of a key's value, at this spot of its array.
+fn value_finding(alloc: Global, fault: SettingsFault, spot: Option<Spot>) -> Finding
+    ensures { result ≡ value_finding spot fault }
+{
+    let fault = SiteFault::Settings(fault);
+    Finding {
+        fault,
+        line: None,
+        detail: detail_of(fault, spot, None),
+        name: Vec::new(alloc),
+    }
+}
+
+// Appends the finding of each of these keys that has a fault.
+fn push_keys(alloc: Global, table: &Table, keys: &[Key], out: &mut Vec<Finding>) -> Pushed
+    ensures { Puts (key_findings (table_view table.now) keys.now) out.old out.new result }
 {
     for key in keys {
         if let Some(fault) = key_fault(table, *key) {
-            let spot = key.row().spot(table);
-            push_fault(SiteFault::Settings(fault), path, None, spot, None, b"", out)?;
+            out.push(value_finding(alloc, fault, key.row().spot(table)))?;
         }
     }
     Ok(())
 }
 
-/// Makes the reports of all faults of a table of settings: of each unknown key, and of each key
-/// with a fault, in the order in which a server checks them.
-pub fn table_report(alloc: Global, path: &[u8], table: &Table) -> Result<Vec<u8>, NoMemory>
-    ensures { IfOk result (λ words. words.items ≡ table_report path.now (table_view table.now)) }
+/// Returns all faults of a table of settings: each unknown key, and each key with a fault, in the
+/// order in which a server checks them.
+pub fn table_findings(alloc: Global, table: &Table) -> Result<Vec<Finding>, NoMemory>
+    ensures { IfOk result (λ found. found.items ≡ table_findings (table_view table.now)) }
 {
-    let mut report = Vec::new(alloc);
-    push_all_unknown(path, &unknown_keys(alloc, table)?, &mut report)?;
-    push_keys(path, table, &Key::ALL, &mut report)?;
-    Ok(report)
+    let mut found = Vec::new(alloc);
+    push_all_unknown(alloc, &unknown_keys(alloc, table)?, &mut found)?;
+    push_keys(alloc, table, &Key::ALL, &mut found)?;
+    Ok(found)
 }

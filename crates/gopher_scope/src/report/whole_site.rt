@@ -1,6 +1,5 @@
-//! How much the whole folder of a site has, by a walk that reads no file.
+//! `SiteSize`: how much the whole folder of a site has, by a walk that reads no file.
 
-use super::lines::push_count;
 use gopher_item::NoMemory;
 use std::alloc::{AllocGlobal, Global};
 use std::fs::{self, Files, Metadata};
@@ -114,11 +113,23 @@ impl Walk {
     }
 }
 
-/// Returns the numbers of files, of folders with the root, and of bytes that the folder `root` and
-/// the folders below have, in words: `files 2, folders 1, bytes 12`. Names are skipped, and links
-/// counted, as the tree of a folder does it. If a file or folder can't be examined, a path is
-/// longer than a server sends, or there are over 1,000,000 names, the words begin with `at least`.
-pub fn whole_site<R: Files>(rt: &R, alloc: Global, root: &str) -> Result<Vec<u8>, NoMemory> {
+/// How much a folder and the folders below have. If a file or folder can't be examined, a path is
+/// longer than a server sends, or there are over 1,000,000 names, the folder has more.
+#[derive(Clone, Copy, Debug)]
+pub struct SiteSize {
+    /// The number of files.
+    pub files: usize,
+    /// The number of folders, with the root.
+    pub folders: usize,
+    /// The number of bytes.
+    pub bytes: usize,
+    /// Whether the folder has no more than these.
+    pub is_exact: bool,
+}
+
+/// Returns how much the folder `root` has. Names are skipped, and links counted, as the tree of a
+/// folder does it.
+pub fn whole_site<R: Files>(rt: &R, alloc: Global, root: &str) -> Result<SiteSize, NoMemory> {
     let mut walk = Walk {
         files: 0,
         folders: 1,
@@ -128,14 +139,15 @@ pub fn whole_site<R: Files>(rt: &R, alloc: Global, root: &str) -> Result<Vec<u8>
     };
     let location = Path::new(root).to_path_buf(alloc)?;
     walk.waiting.push(Waiting { location, below: 0 })?;
-    let mut words = Vec::new(alloc);
-    match walk.enter_all(rt, alloc) {
-        Ok(()) => {}
+    let is_exact = match walk.enter_all(rt, alloc) {
+        Ok(()) => true,
         Err(error) if error.kind() == ErrorKind::OutOfMemory => return Err(NoMemory),
-        Err(_) => words.extend_from_slice(b"at least ")?,
-    }
-    push_count(b"files ", walk.files, &mut words)?;
-    push_count(b", folders ", walk.folders, &mut words)?;
-    push_count(b", bytes ", walk.bytes, &mut words)?;
-    Ok(words)
+        Err(_) => false,
+    };
+    Ok(SiteSize {
+        files: walk.files,
+        folders: walk.folders,
+        bytes: walk.bytes,
+        is_exact,
+    })
 }

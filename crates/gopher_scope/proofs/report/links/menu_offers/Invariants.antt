@@ -1,5 +1,5 @@
 use Rattle.std.proofs.Common.{◌≡◌, length}
-use Rattle.gopher_scope.specs.Lines.{menu_offers}
+use Rattle.gopher_scope.specs.Warnings.{menu_offers}
 use Rattle.gopher_scope.proofs.report.links.menu_offers.Given as goal
 
 abbrev pub invariant-loop-line : goal.invariant-loop-line

@@ -1,7 +1,7 @@
 use Rattle.std.proofs.Common.{◌≡◌, drop, map}
 use Rattle.std.specs.List.{list_any}
 use Rattle.gopher_tree.specs.Found.{lent_file}
-use Rattle.gopher_scope.specs.Lines.{menu_offers}
+use Rattle.gopher_scope.specs.Warnings.{menu_offers}
 use Rattle.gopher_scope.proofs.report.links.offers_search.Given as goal
 
 abbrev pub invariant-loop-menu : goal.invariant-loop-menu

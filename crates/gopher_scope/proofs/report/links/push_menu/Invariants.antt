@@ -1,6 +1,6 @@
 use Rattle.std.proofs.Common.{◌≡◌, ◌++◌, ◌+◌, ◌≤◌, length}
 use Rattle.gopher_bytes.specs.Lines.{lines_of}
-use Rattle.gopher_scope.specs.Lines.{lines_warnings, menu_warnings}
+use Rattle.gopher_scope.specs.Warnings.{lines_warnings, menu_warnings}
 use Rattle.gopher_scope.proofs.report.links.push_menu.Given as goal
 
 abbrev pub invariant-loop-line : goal.invariant-loop-line
