@@ -23,6 +23,7 @@ pub fn join<C: Crew>(book: &mut Book<C>, all: &mut Share<C>, shares: &mut Vec<Sh
     ensures joined { JoinsAll all.old shares.old.items all.new }
     ensures whole { all.new.parts ≡ C.parts → all.new.events ≡ book.old.total }
 {
+    // For the prover: a share with all parts counts the book's total.
     all.audit(book);
     while let Some(share) = shares.pop() {
         all.merge(book, share);

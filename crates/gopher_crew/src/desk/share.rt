@@ -126,6 +126,7 @@ impl<C: Crew> Share<C> {
         ensures missed { self.new.missed ≡ self.old.missed }
         ensures total { book.new.total ≡ book.old.total + 1 }
     {
+        // For the prover: the share counts at most the book's total.
         book.audit(&mut self.part);
         book.add(&mut self.part, 1);
         self.count += 1;
@@ -158,6 +159,7 @@ impl<C: Crew> Share<C> {
         ensures whole { self.new.parts ≡ C.parts → self.new.events ≡ book.old.total }
     {
         let mut other = other;
+        // For the prover: each share counts at most the book's total, also after the merge.
         other.audit(book);
         self.audit(book);
         let Share {

@@ -78,6 +78,7 @@ impl RecordPrefix {
         ensures begins { IsTrue result → GoesOn self.now other.now }
         ensures or_else { (result ≡ false) → GoesOn other.now self.now }
     {
+        // For the prover: of two prefixes of one history, one begins with the other.
         let mut both = self.seen.again();
         both.learn(&other.seen);
         if self.len > other.len {
@@ -91,6 +92,7 @@ impl RecordPrefix {
         requires { other.now.history ≡ self.now.history }
         ensures { GoesOn self.now other.now }
     {
+        // For the prover: the first round returns, which no clause says.
         for _round in rt.forever() {
             if self.begins(other) {
                 return;
