@@ -1,4 +1,4 @@
 pub mod Blocks
 pub mod Runs
 pub mod Sends
-pub mod Finds
+pub mod Refusals

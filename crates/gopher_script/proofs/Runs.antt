@@ -5,7 +5,7 @@ use Rattle.std.specs.Io.KnownBytes.{Appends}
 use Rattle.std.proofs.KnownBytes.{Appends-nil, Appends-trans}
 use Rattle.gopher_text.specs.Watched.{HasFailed}
 use Rattle.gopher_script.specs.Command.{StatementData}
-use Rattle.gopher_script.specs.Script.{RunData, run_statements, prepend, answer_at, after_at, ended_at, ended_well}
+use Rattle.gopher_script.specs.Script.{RunData, run_statements, prepend, statement_step, ended_at, ended_well}
 use Rattle.gopher_script.specs.Replay.{RunEnds, StatementEnds}
 use Rattle.gopher_script.specs.declared.stage.Stage.{Stage}
 use Rattle.gopher_script.specs.declared.fault.ReplayFault.{ReplayFault}
@@ -21,24 +21,28 @@ pub record RunsOn (run : RunData) (old now : Option (List ℕ)) (before after : 
 prepend-append : (a b : List ℕ) (run : RunData) → prepend (a ++ b) run ≡ prepend a (prepend b run)
 prepend-append a b run = ap (λ o. record { output = o; bad_line = run.bad_line }) (append_assoc a b run.output)
 
-run-answered : (stage : Stage) (s : StatementData) (ss : List StatementData) (answer : List ℕ) → answer_at stage s ≡ Some answer
-    → run_statements stage (s ∷ ss) ≡ prepend answer (run_statements (after_at stage s) ss)
-unfolding run_statements
-run-answered stage s ss answer e = ap (λ o. option_map_or (λ a. prepend a (run_statements (after_at stage s) ss)) o (ended_at s.number)) e
+-- the run of statements whose first one takes this step, or is bad
+abbrev run_from : List StatementData → ℕ → Option (List ℕ × Stage) → RunData
+run_from ss number step = option_map_or (λ taken. prepend taken.0 (run_statements taken.1 ss)) step (ended_at number)
 
-run-bad : (stage : Stage) (s : StatementData) (ss : List StatementData) → answer_at stage s ≡ None → run_statements stage (s ∷ ss) ≡ ended_at s.number
+run-answered : (stage next : Stage) (s : StatementData) (ss : List StatementData) (answer : List ℕ) → statement_step stage s ≡ Some (answer, next)
+    → run_statements stage (s ∷ ss) ≡ prepend answer (run_statements next ss)
 unfolding run_statements
-run-bad stage s ss e = ap (λ o. option_map_or (λ a. prepend a (run_statements (after_at stage s) ss)) o (ended_at s.number)) e
+run-answered stage next s ss answer e = ap (run_from ss s.number) e
+
+run-bad : (stage : Stage) (s : StatementData) (ss : List StatementData) → statement_step stage s ≡ None → run_statements stage (s ∷ ss) ≡ ended_at s.number
+unfolding run_statements
+run-bad stage s ss e = ap (run_from ss s.number) e
 
 pub begins : (stage : Stage) (ss : List StatementData) (old : Option (List ℕ)) (before : ℕ) → RunsOn (run_statements stage ss) old old before before stage ss
 begins stage ss old before = record { written = []; appended = Appends-nil old; left = refl; counted = omega arith }
 
 pub goes_on : (run : RunData) (old now new : Option (List ℕ)) (before after later : ℕ) (stage next : Stage) (s : StatementData) (ss all : List StatementData) → all ≡ s ∷ ss
     → RunsOn run old now before after stage all → StatementEnds stage s now new after later (Ok next) → RunsOn run old new before later next ss
-goes_on run old now new before after later stage next s ss all is so (answer, answered, sent, then, counted) = record {
+goes_on run old now new before after later stage next s ss all is so (answer, answered, sent, counted) = record {
   written = so.written ++ answer;
   appended = Appends-trans old now new so.written answer so.appended sent;
-  left = so.left ∙ ap (prepend so.written) (ap (run_statements stage) is ∙ run-answered stage s ss answer answered ∙ ap (λ t. prepend answer (run_statements t ss)) (sym then))
+  left = so.left ∙ ap (prepend so.written) (ap (run_statements stage) is ∙ run-answered stage next s ss answer answered)
       ∙ sym (prepend-append so.written answer (run_statements next ss));
   counted = omega (arith, so.counted, counted);
 }
@@ -64,9 +68,9 @@ stops run old now new before after later stage s ss all (BadScript line) is so (
       ap (λ r. r.bad_line) whole ∙ ap Some (sym number),
       subst (Appends old new) (sym (ap (λ r. r.output) whole)) (Appends-trans old now new so.written [] so.appended sent),
     )
-stops run old now new before after later stage s ss all WriteFailed is so (answer, answered, (part, rest, split, sent), failed, later_than) =
-    let more = (run_statements (after_at stage s) ss).output in
-    let whole : run ≡ prepend so.written (prepend answer (run_statements (after_at stage s) ss)) = so.left ∙ ap (prepend so.written) (ap (run_statements stage) is ∙ run-answered stage s ss answer answered) in
+stops run old now new before after later stage s ss all WriteFailed is so (answer, next, answered, (part, rest, split, sent), failed, later_than) =
+    let more = (run_statements next ss).output in
+    let whole : run ≡ prepend so.written (prepend answer (run_statements next ss)) = so.left ∙ ap (prepend so.written) (ap (run_statements stage) is ∙ run-answered stage next s ss answer answered) in
     let here : run.output ≡ (so.written ++ part) ++ (rest ++ more) =
     ap (λ r. r.output) whole ∙ ap (λ a. so.written ++ (a ++ more)) split ∙ ap (λ a. so.written ++ a) (append_assoc part rest more) ∙ sym (append_assoc so.written part (rest ++ more)) in
     ((so.written ++ part, rest ++ more, here, Appends-trans old now new so.written part so.appended sent), has_failed-since before after later so.counted failed later_than)

@@ -5,7 +5,7 @@ use Rattle.gopher_text.specs.Reply.{SpendsTurns}
 use Rattle.gopher_text.specs.Watched.{WatchedData, HasFailed}
 use Rattle.gopher_text.specs.declared.reply_reader.TheConstants.{MAX_REPLY}
 use Rattle.gopher_script.specs.Command.{StatementData}
-use Rattle.gopher_script.specs.Script.{RunData, script_output, answer_at, after_at}
+use Rattle.gopher_script.specs.Script.{RunData, script_output, statement_step}
 use Rattle.gopher_script.specs.declared.stage.Stage.{Stage}
 use Rattle.gopher_script.specs.declared.fault.ReplayFault.{ReplayFault}
 use Rattle.gopher_script.specs.declared.fault.ReplayFault.TheVariants.{ReadFailed, TooManyTurns, ReplyTooLong, WriteFailed, BadScript, NoMemory}
@@ -41,13 +41,13 @@ AnswerEnds answer old new before after (Err fault) = ⊥
 abbrev pub StatementEnds : Stage → StatementData → Option (List ℕ) → Option (List ℕ) → ℕ → ℕ
     → Result Stage ReplayFault → Type 0
 StatementEnds stage statement old new before after (Ok next) =
-    (answer : List ℕ) × (answer_at stage statement ≡ Some answer) × Appends old new answer
-    × (next ≡ after_at stage statement) × (before ≤ after)
+    (answer : List ℕ) × (statement_step stage statement ≡ Some (answer, next))
+    × Appends old new answer × (before ≤ after)
 StatementEnds stage statement old new before after (Err (BadScript line)) =
-    (answer_at stage statement ≡ None) × (line ≡ statement.number) × Appends old new []
+    (statement_step stage statement ≡ None) × (line ≡ statement.number) × Appends old new []
 StatementEnds stage statement old new before after (Err WriteFailed) =
-    (answer : List ℕ) × (answer_at stage statement ≡ Some answer) × AppendsPart old new answer
-    × HasFailed before after × (before ≤ after)
+    (answer : List ℕ) × (next : Stage) × (statement_step stage statement ≡ Some (answer, next))
+    × AppendsPart old new answer × HasFailed before after × (before ≤ after)
 StatementEnds stage statement old new before after (Err NoMemory) = Appends old new []
 StatementEnds stage statement old new before after (Err fault) = ⊥
 

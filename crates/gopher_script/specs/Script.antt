@@ -4,7 +4,7 @@ use Rattle.std.specs.List.{flat_map}
 use Rattle.std.specs.Option.{option_map_or, option_and_then}
 use Rattle.gopher_bytes.specs.Lines.{lines_of}
 use Rattle.gopher_script.specs.Command.{command_of, StatementData}
-use Rattle.gopher_script.specs.Stage.{command_answer, after}
+use Rattle.gopher_script.specs.Stage.{step}
 use Rattle.gopher_script.specs.declared.command.Command.{Command}
 use Rattle.gopher_script.specs.declared.command.Command.TheVariants.{Found}
 use Rattle.gopher_script.specs.declared.stage.Stage.{Stage}
@@ -57,15 +57,11 @@ pub record RunData : Type 0 where
   pub output : List ℕ
   pub bad_line : Option ℕ
 
--- the answer of a statement, or none if its line is bad: no command, or one that isn't valid at
--- this stage
-abbrev pub answer_at : Stage → StatementData → Option (List ℕ)
-answer_at stage statement =
-    option_and_then (λ command. command_answer stage command statement.reply) statement.command
-
-abbrev pub after_at : Stage → StatementData → Stage
-after_at stage statement =
-    option_map_or (λ command. after stage command statement.reply) statement.command stage
+-- the answer of a statement and the next stage; none if its line is bad: no command, or one that
+-- isn't valid at this stage
+abbrev pub statement_step : Stage → StatementData → Option (List ℕ × Stage)
+statement_step stage statement =
+    option_and_then (λ command. step stage command statement.reply) statement.command
 
 abbrev pub prepend : List ℕ → RunData → RunData
 prepend answer run = record { output = answer ++ run.output; bad_line = run.bad_line }
@@ -80,8 +76,8 @@ ended_at number = record { output = []; bad_line = Some number }
 unfoldable pub run_statements : Stage → List StatementData → RunData
 run_statements stage [] = ended_well
 run_statements stage (statement ∷ statements) =
-    option_map_or (λ answer. prepend answer (run_statements (after_at stage statement) statements))
-    (answer_at stage statement) (ended_at statement.number)
+    option_map_or (λ taken. prepend taken.0 (run_statements taken.1 statements))
+    (statement_step stage statement) (ended_at statement.number)
 
 -- the statements of the bytes after this many lines, which don't begin inside a block
 abbrev pub statements_after : ℕ → List ℕ → List StatementData

@@ -1,9 +1,7 @@
 //! The commands of a script during its crawl. Each function returns the bytes of the answer.
 
-ghost use Rattle.std.specs.Prelude.{◌≡◌, OnOk};
-ghost use Rattle.gopher_catalogue.specs.Step.{after_turn, turn_of};
 ghost use Rattle.gopher_script.specs.Answer.{ReturnsBytes};
-ghost use Rattle.gopher_script.specs.Stage.{turn_line, page_line, after_page, after_found, found_line, fail_line, after_fail, search_lines, occurs_lines};
+ghost use Rattle.gopher_script.specs.Stage.{claim_step, page_step, found_step, fail_step, search_lines, occurs_lines, TakesStep};
 
 use crate::command::{PlaceParts, QueryText};
 use crate::lines::{added_line, ok_line, refused_line, take_line};
@@ -16,8 +14,7 @@ use std::alloc::Global;
 
 /// Claims the next place.
 pub fn claim(alloc: Global, crawl: &mut Catalogue) -> Result<Vec<u8>, NoMemory>
-    ensures answer { ReturnsBytes result (turn_line (turn_of crawl.old)) }
-    ensures record { OnOk result (crawl.new ≡ after_turn crawl.old (turn_of crawl.old)) }
+    ensures { TakesStep (claim_step crawl.old) crawl.new result }
 {
     match crawl.claim()? {
         Turn::Take(claim) => take_line(alloc, claim.number, &claim.place),
@@ -34,8 +31,7 @@ pub fn found(
     parts: &PlaceParts<'_>,
     reply: &[u8],
 ) -> Result<Vec<u8>, NoMemory>
-    ensures answer { ReturnsBytes result (found_line crawl.old number parts.now reply.now) }
-    ensures record { OnOk result (crawl.new ≡ after_found crawl.old number parts.now reply.now) }
+    ensures { TakesStep (found_step crawl.old number parts.now reply.now) crawl.new result }
 {
     match parts.make(alloc) {
         Ok(place) => found_at(alloc, crawl, number, &place, reply),
@@ -50,8 +46,7 @@ fn found_at(
     place: &Place,
     reply: &[u8],
 ) -> Result<Vec<u8>, NoMemory>
-    ensures answer { ReturnsBytes result (page_line crawl.old number place.now reply.now) }
-    ensures record { OnOk result (crawl.new ≡ after_page crawl.old number place.now reply.now) }
+    ensures { TakesStep (page_step crawl.old number place.now reply.now) crawl.new result }
 {
     // For the prover: a block is no longer than its script.
     if reply.len() > MAX_REPLY {
@@ -74,8 +69,7 @@ pub fn fail(
     number: u32,
     why: Why,
 ) -> Result<Vec<u8>, NoMemory>
-    ensures answer { ReturnsBytes result (fail_line crawl.old number) }
-    ensures record { OnOk result (crawl.new ≡ after_fail crawl.old number why) }
+    ensures { TakesStep (fail_step crawl.old number why) crawl.new result }
 {
     match crawl.fail(number, why) {
         Ok(()) => ok_line(alloc),

@@ -2,7 +2,7 @@
 
 ghost use Rattle.std.specs.Prelude.{◌≡◌, []};
 ghost use Rattle.gopher_script.specs.Parts.{DraftData};
-ghost use Rattle.gopher_script.specs.Stage.{TakesRule, TakesSeed};
+ghost use Rattle.gopher_script.specs.Stage.{rule_step, seed_step, TakesStep};
 
 use crate::command::{PlaceParts, RuleParts};
 use crate::lines::refused_line;
@@ -46,7 +46,7 @@ pub fn add_rule(
     rules: &mut Vec<Rule>,
     parts: &RuleParts<'_>,
 ) -> Result<Vec<u8>, NoMemory>
-    ensures { TakesRule rules.old parts.now rules.new result }
+    ensures { TakesStep (rule_step rules.old.items parts.now) rules.new.items result }
 {
     match parts.make(alloc) {
         Ok(rule) => {
@@ -63,7 +63,7 @@ pub fn add_seed(
     seeds: &mut Vec<Place>,
     parts: &PlaceParts<'_>,
 ) -> Result<Vec<u8>, NoMemory>
-    ensures { TakesSeed seeds.old parts.now seeds.new result }
+    ensures { TakesStep (seed_step seeds.old.items parts.now) seeds.new.items result }
 {
     match parts.make(alloc) {
         Ok(seed) => {

@@ -1,7 +1,8 @@
 //! What each command does before the crawl and during it (`perform`).
 
-ghost use Rattle.std.specs.Prelude.{◌≡◌, [], Ok, IfOk, OnOk};
-ghost use Rattle.gopher_script.specs.Stage.{start_line, after_start, answer_in, after_in, IsAnswer, Performs};
+ghost use Rattle.std.specs.Prelude.{◌≡◌, [], IfOk};
+ghost use Rattle.std.specs.Result.{result_map_both};
+ghost use Rattle.gopher_script.specs.Stage.{start_step, step, TakesCrawlStep};
 
 use crate::command::Command;
 use crate::crawl::{claim, fail, found, occurs, search};
@@ -10,6 +11,7 @@ use crate::lines::{ok_line, refused_line, status_line};
 use gopher_catalogue::Catalogue;
 use gopher_item::{NoMemory, Scope};
 use std::alloc::Global;
+use std::marker::Model;
 
 /// The stage of a script.
 #[derive(Debug, Drop)]
@@ -29,9 +31,18 @@ pub struct Performed {
     pub answer: Vec<u8>,
 }
 
+impl Model for Performed {
+    ghost use Rattle.std.specs.Prelude.{ℕ, List};
+    ghost use Rattle.gopher_script.specs.declared.stage.Stage.{Stage};
+
+    ghost Value = { List ℕ × Stage };
+
+    ghost view = { λ p. (p.answer.items, p.stage) };
+}
+
 // What a command made, if there was memory for its answer.
 fn with_answer(stage: Stage, answer: Result<Vec<u8>, NoMemory>) -> Result<Performed, NoMemory>
-    ensures { IfOk result (λ done. (done.stage ≡ stage) × (answer ≡ Ok done.answer)) }
+    ensures { result ≡ result_map_both (λ bytes. (bytes.items, stage)) (λ fault. fault) answer }
 {
     let answer = answer?;
     Ok(Performed { stage, answer })
@@ -39,8 +50,7 @@ fn with_answer(stage: Stage, answer: Result<Vec<u8>, NoMemory>) -> Result<Perfor
 
 /// Starts the crawl, unless its catalogue can't be opened.
 fn start(alloc: Global, draft: Draft, places: u32, tries: u32) -> Result<Performed, NoMemory>
-    ensures answer { IfOk result (λ done. done.answer.items ≡ start_line draft places tries) }
-    ensures stage { IfOk result (λ done. done.stage ≡ after_start draft places tries) }
+    ensures { IfOk result (λ performed. performed ≡ start_step draft places tries) }
 {
     let Draft { allow, deny, seeds } = draft;
     match Catalogue::open(alloc, Scope::new(allow, deny), seeds, places, tries) {
@@ -60,7 +70,7 @@ fn perform_before(
     mut draft: Draft,
     command: Command<'_>,
 ) -> Result<Option<Performed>, NoMemory>
-    ensures { IfOk result (Performs (Stage.Gathering draft) command.entry []) }
+    ensures { IfOk result (λ next. next ≡ step (Stage.Gathering draft) command.entry []) }
 {
     let answer = match command {
         Command::Nothing => Vec::new(alloc),
@@ -82,8 +92,7 @@ fn answer_in(
     command: Command<'_>,
     reply: &[u8],
 ) -> Result<Option<Vec<u8>>, NoMemory>
-    ensures answer { IfOk result (IsAnswer (answer_in catalogue.old command.entry reply.now)) }
-    ensures record { OnOk result (catalogue.new ≡ after_in catalogue.old command.entry reply.now) }
+    ensures { IfOk result (TakesCrawlStep catalogue.old command.entry reply.now catalogue.new) }
 {
     let answer = match command {
         Command::Nothing => Vec::new(alloc),
@@ -106,7 +115,7 @@ pub fn perform(
     command: Command<'_>,
     reply: &[u8],
 ) -> Result<Option<Performed>, NoMemory>
-    ensures { IfOk result (Performs stage command.entry reply.now) }
+    ensures { IfOk result (λ next. next ≡ step stage command.entry reply.now) }
 {
     match stage {
         Stage::Gathering(draft) => perform_before(alloc, draft, command),
