@@ -7,6 +7,7 @@ pub mod Legal
 pub mod Queue
 pub mod Counting
 pub mod States
+pub mod Consistent
 pub mod LegalSizes
 pub mod Calls
 pub mod KnownPlaces

@@ -1,5 +1,6 @@
 -- The tables of a crawl: the known places, and the queue of waiting ones.
-use Rattle.std.specs.Prelude.{◌≡◌, ℕ, ◌+◌, ◌-◌, Bool, false, ◌&&◌, ◌||◌, not, List, [], ◌∷◌, ◌++◌, length, filter, replicate, drop, slice_set, nat_le, if◌then◌else◌}
+use Rattle.std.specs.Prelude.{◌≡◌, ℕ, ◌+◌, ◌-◌, Bool, false, ◌&&◌, ◌||◌, not, List, [], ◌∷◌, ◌++◌, length, filter, replicate, drop, slice_get, slice_set, nat_le, if◌then◌else◌}
+use Rattle.std.specs.Option.{option_map_or}
 use Rattle.std.specs.Vec.{vec_capacity, vec_len}
 use Rattle.std.specs.declared.vec.Vec.{Vec}
 use Rattle.gopher_item.specs.Place.{PlaceData, is_among}
@@ -17,6 +18,19 @@ known_with places standings = record { places = places; standings = standings }
 -- a place that was never claimed
 abbrev pub unclaimed : Standing
 unclaimed = record { claims = 0; is_out = false }
+
+-- a place that was claimed so often and isn't out
+abbrev pub ended : ℕ → Standing
+ended claims = record { claims = claims; is_out = false }
+
+-- how often a number was claimed, and whether it is out; an unknown number was never claimed
+abbrev pub claims_at : List Standing → ℕ → ℕ
+claims_at standings number =
+    option_map_or (λ standing. standing.claims) (slice_get standings number) 0
+
+abbrev pub is_out_at : List Standing → ℕ → Bool
+is_out_at standings number =
+    option_map_or (λ standing. standing.is_out) (slice_get standings number) false
 
 -- the known places are those before, with unchanged states, and more that were never claimed
 pub record Extends (old new : KnownData) : Type 0 where

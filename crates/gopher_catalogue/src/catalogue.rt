@@ -123,7 +123,7 @@ impl Catalogue {
         if let Some(fault) = open_fault(&scope, &seeds, places, tries) {
             return Err(refused(fault, scope, seeds));
         }
-        let Ok(frontier) = Frontier::open(alloc, places, &seeds) else {
+        let Ok(frontier) = Frontier::open(alloc, places, tries, &seeds) else {
             return Err(refused(OpenFault::NoMemory, scope, seeds));
         };
         match Archive::begin(alloc, Opening::new(scope, seeds, places, tries)) {
@@ -150,18 +150,16 @@ impl Catalogue {
         ensures err { OnErr result (self.new ≡ self.old) }
         ensures legal { IsLegal self.new }
     {
-        let out = self.frontier.out;
-        let Some(number) = self.frontier.queue.first() else {
+        let out = self.frontier.status().out;
+        let Some((number, place)) = self.frontier.first() else {
             if out == 0 {
                 return Ok(Turn::Finished);
             }
             return Ok(Turn::Idle);
         };
-        let standing = self.frontier.known.standing(number as usize).unwrap();
-        let place = self.frontier.known.as_slice()[number as usize].clone()?;
+        let place = place.clone()?;
         self.archive.reserve(out as usize + 2)?;
-        self.frontier.queue.reserve(out as usize + 1)?;
-        self.frontier.claim(number, standing);
+        self.frontier.claim(number)?;
         self.archive.push(Event::Claimed(number));
         Ok(Turn::Take(Claim { number, place }))
     }
@@ -186,27 +184,26 @@ impl Catalogue {
         ensures err { OnErr result (self.new ≡ self.old) }
         ensures legal { IsLegal self.new }
     {
-        let Some(standing) = self.frontier.out_standing(number) else {
+        if !self.frontier.is_out(number) {
             let fault = FoundFault::NotOut;
             return Err(FoundRefused { fault, page });
-        };
+        }
         if !self.frontier.has_place(number, page.place()) {
             let fault = FoundFault::WrongPlace;
             return Err(FoundRefused { fault, page });
         }
         let fault = FoundFault::NoMemory;
-        let before = self.frontier.known.len() as u32;
-        let opening = self.archive.opening();
-        let Ok(added) = self.frontier.learn(self.alloc, opening, &page) else {
+        let scope = self.archive.opening().scope();
+        let Ok(added) = self.frontier.learn(self.alloc, scope, &page) else {
             return Err(FoundRefused { fault, page });
         };
         match self.archive.add_found(self.alloc, number, page) {
             Ok(()) => {
-                self.frontier.found(number, standing, before, added.dropped);
+                self.frontier.found(number, added.dropped);
                 Ok(added)
             }
             Err(page) => {
-                self.frontier.known.truncate(before as usize);
+                self.frontier.forget();
                 Err(FoundRefused { fault, page })
             }
         }
@@ -225,11 +222,10 @@ impl Catalogue {
         ensures err { OnErr result (self.new ≡ self.old) }
         ensures legal { IsLegal self.new }
     {
-        let Some(standing) = self.frontier.out_standing(number) else {
+        if !self.frontier.is_out(number) {
             return Err(FailRefused);
-        };
-        let tries = self.archive.opening().tries();
-        self.frontier.fail(number, standing, tries);
+        }
+        self.frontier.fail(number);
         self.archive.push(Event::Failed(number, why));
         Ok(())
     }
@@ -271,14 +267,7 @@ impl Catalogue {
         ensures status { result ≡ status_of self.now }
         ensures legal { IsLegal self.now }
     {
-        let frontier = &self.frontier;
-        Status {
-            known: frontier.known.len() as u32,
-            waiting: frontier.queue.len() as u32,
-            out: frontier.out,
-            done: frontier.done,
-            dropped: frontier.dropped,
-        }
+        self.frontier.status()
     }
 
     /// Returns whether the crawl is finished: no place waits and none is out.
@@ -311,7 +300,7 @@ impl Catalogue {
         ensures reach { OnceComplete self.now HoldsReach }
         ensures legal { IsLegal self.now }
     {
-        self.frontier.known.as_slice()
+        self.frontier.places()
     }
 
     /// Returns the opening of the crawl, which the first event contains.

@@ -1,44 +1,74 @@
 //! `Frontier`: the known places of a crawl, the queue of waiting ones, and their numbers.
 
-ghost use Rattle.std.specs.Prelude.{◌≡◌, ◌+◌, ◌-◌, ◌^◌, ◌<◌, ◌≤◌, length, slice_get, MatchOption, Some, IfOk, OnErr};
+ghost use Rattle.std.specs.Prelude.{◌≡◌, ◌<◌, ◌^◌, true, [], length, map, slice_get, Some, MatchOption, IfOk, OnOk, OnErr};
+ghost use Rattle.std.specs.Arc.{arc_value};
 ghost use Rattle.gopher_catalogue.specs.Step.{is_place_at};
-ghost use Rattle.gopher_catalogue.specs.FrontierTables.{Begins, KeepsFrontier, MayLearn, Learns, IsNotOut, IsOutAs, after_claim, after_outcome, after_find, after_failure};
+ghost use Rattle.gopher_catalogue.specs.Tables.{is_out_at};
+ghost use Rattle.gopher_catalogue.specs.FrontierTables.{AreLimits, Begins, IsFirst, Learns, sizes_of, without_fresh, after_claim, after_find, after_failure};
 
 mod known;
 mod queue;
 mod sizes;
 
-use crate::opening::Opening;
-use gopher_item::{MAX_PLACES, MAX_TRIES, NoMemory, Place, Places};
+use gopher_item::{NoMemory, Place, Places, Scope};
 use gopher_page::Page;
 use known::{KnownPlaces, Standing};
 use queue::Queue;
 pub use sizes::{Added, Status};
 use std::alloc::Global;
+use std::marker::Model;
+use std::sync::Arc;
 
 /// The known places with their states, the queue of waiting places, and counts that each call
 /// updates. A number identifies a place: its index, from 0, among the known places.
 ///
-/// Contracts don't relate these tables to each other: the caller keeps them consistent.
+/// The tables of every frontier agree with each other. Each place waits once, is out or is done,
+/// unless `learn` made it known after the last page was found. A place that waits has tries left.
 #[derive(Debug, Drop)]
 pub(crate) struct Frontier {
-    /// The known places, each at the index that is its number.
-    pub known: KnownPlaces,
-    /// The numbers that wait.
-    pub queue: Queue,
-    /// The number of places that are out: claimed and without an outcome.
-    pub out: u32,
-    /// The number of places that are done.
-    pub done: u32,
-    /// The number of dropped mentions.
-    pub dropped: u64,
+    // The limit of known places.
+    limit: u32,
+    // The limit of claims of a place.
+    tries: u32,
+    // The known places, each at the index that is its number.
+    known: KnownPlaces,
+    // How many of the known places, the last ones, don't wait yet.
+    fresh: u32,
+    // The numbers that wait.
+    queue: Queue,
+    // The number of places that are out: claimed and without an outcome.
+    out: u32,
+    // The number of places that are done.
+    done: u32,
+    // The number of dropped mentions.
+    dropped: u64,
+}
+
+impl Model for Frontier {
+    ghost use Rattle.gopher_catalogue.specs.FrontierTables.{FrontierData, IsConsistent, frontier_with};
+
+    ghost Value = { FrontierData };
+
+    ghost view = { λ f.
+        frontier_with f.limit f.tries f.known f.fresh f.queue.waiting f.out f.done f.dropped };
+
+    ghost invariant = { λ f. IsConsistent
+        (frontier_with f.limit f.tries f.known f.fresh f.queue.waiting f.out f.done f.dropped)
+        f.queue.room };
 }
 
 impl Frontier {
-    /// The frontier of a new crawl: the distinct seeds, at most `limit` of them, wait.
-    pub fn open(alloc: Global, limit: u32, seeds: &[Place]) -> Result<Frontier, NoMemory>
-        requires { limit ≤ MAX_PLACES }
-        ensures { IfOk result (Begins limit seeds.now) }
+    /// The frontier of a new crawl: the distinct seeds, at most `limit` of them, wait. Each can be
+    /// claimed at most `tries` times.
+    pub fn open(
+        alloc: Global,
+        limit: u32,
+        tries: u32,
+        seeds: &[Place],
+    ) -> Result<Frontier, NoMemory>
+        requires limits { AreLimits limit tries }
+        requires few_seeds { length seeds.now < 2 ^ 63 }
+        ensures { IfOk result (Begins limit tries seeds.now) }
     {
         let mut known = KnownPlaces::new(alloc);
         let dropped = known.mention_seeds(alloc, limit as usize, seeds)?;
@@ -46,7 +76,10 @@ impl Frontier {
         queue.reserve(known.len())?;
         queue.push_range(0, known.len() as u32);
         Ok(Frontier {
+            limit,
+            tries,
             known,
+            fresh: 0,
             queue,
             out: 0,
             done: 0,
@@ -54,15 +87,41 @@ impl Frontier {
         })
     }
 
-    /// Returns the state of the place with this number, if it is out.
-    pub fn out_standing(&self, number: u32) -> Option<Standing>
-        ensures { MatchOption result (IsNotOut self.now number) (IsOutAs self.now number) }
+    /// Returns the number of places in each state, and of dropped mentions.
+    pub fn status(&self) -> Status
+        ensures { result ≡ sizes_of self.now }
     {
-        let standing = self.known.standing(number as usize)?;
-        if standing.is_out {
-            Some(standing)
-        } else {
-            None
+        Status {
+            known: self.known.len() as u32,
+            waiting: self.queue.len() as u32,
+            out: self.out,
+            done: self.done,
+            dropped: self.dropped,
+        }
+    }
+
+    /// Returns the known places, each at the index that is its number.
+    pub fn places(&self) -> &[Arc<Place>]
+        ensures { map arc_value result.now ≡ self.now.known.places }
+    {
+        self.known.as_slice()
+    }
+
+    /// Returns the first waiting number, with its place.
+    pub fn first(&self) -> Option<(u32, &Arc<Place>)>
+        ensures { MatchOption result (self.now.waiting ≡ []) (λ r. IsFirst self.now r.0 r.1.now) }
+    {
+        let number = self.queue.first()?;
+        Some((number, &self.known.as_slice()[number as usize]))
+    }
+
+    /// Returns whether the place with this number is out.
+    pub fn is_out(&self, number: u32) -> bool
+        ensures { result ≡ is_out_at self.now.known.standings number }
+    {
+        match self.known.standing(number as usize) {
+            Some(standing) => standing.is_out,
+            None => false,
         }
     }
 
@@ -76,53 +135,54 @@ impl Frontier {
         }
     }
 
-    /// Makes the links of a page known that the scope of the crawl allows, up to its limit of
-    /// places, and returns how many became known and how many mentions were dropped.
+    /// Makes the links of a page known that the scope allows, up to the limit of places, and
+    /// returns how many became known and how many mentions were dropped.
     ///
-    /// It also reserves room in the queue for the new places and for the outcome of each place that
-    /// is out. The new places don't wait before `found`.
-    pub fn learn(
-        &mut self,
-        alloc: Global,
-        opening: &Opening,
-        page: &Page,
-    ) -> Result<Added, NoMemory>
-        requires { MayLearn opening.now.limit self.old }
-        ensures ok { IfOk result (Learns opening.now page.now.links self.old self.new) }
-        ensures err { OnErr result (KeepsFrontier self.old self.new) }
+    /// The new places don't wait before `found`, for which it reserves room.
+    pub fn learn(&mut self, alloc: Global, scope: &Scope, page: &Page) -> Result<Added, NoMemory>
+        ensures ok { IfOk result (Learns scope.now page.now.links self.old self.new) }
+        ensures err { OnErr result (self.new ≡ self.old) }
     {
-        let limit = opening.places() as usize;
         let before = self.known.len();
         let mentioned = {
             let none = Places::new(alloc);
             let links = page.packed_links().unwrap_or(&none);
             self.known
-                .mention_links(alloc, opening.scope(), limit, links)
+                .mention_links(alloc, scope, self.limit as usize, links)
         };
         let Ok(dropped) = mentioned else {
             self.known.truncate(before);
             return Err(NoMemory);
         };
-        let fresh = self.known.len() - before;
+        let added = self.known.len() - before;
+        let fresh = self.fresh as usize + added;
         if self.queue.reserve(fresh + self.out as usize).is_err() {
             self.known.truncate(before);
             return Err(NoMemory);
         }
+        self.fresh = fresh as u32;
         Ok(Added {
-            fresh: fresh as u32,
+            fresh: added as u32,
             dropped,
         })
     }
 
-    /// Claims the first waiting number, whose state is `standing`. It is out from now on.
-    #[tactic(auto, using(std::proofs::lemmas::Option::slice_get_within))]
-    pub fn claim(&mut self, number: u32, standing: Standing)
-        requires first { slice_get self.old.queue.waiting 0 ≡ Some number }
-        requires standing { slice_get self.old.known.standings number ≡ Some standing }
-        requires few_claims { standing.claims < MAX_TRIES }
-        requires few_out { self.old.out ≤ MAX_PLACES }
-        ensures { self.new ≡ after_claim self.old number standing }
+    /// Forgets the places that were learned and don't wait yet.
+    pub fn forget(&mut self)
+        ensures { self.new ≡ without_fresh self.old }
     {
+        self.known.truncate(self.known.len() - self.fresh as usize);
+        self.fresh = 0;
+    }
+
+    /// Claims the first waiting number, which is out from now on. Reserves room for its outcome.
+    pub fn claim(&mut self, number: u32) -> Result<(), NoMemory>
+        requires first { slice_get self.old.waiting 0 ≡ Some number }
+        ensures ok { OnOk result (self.new ≡ after_claim self.old number) }
+        ensures err { OnErr result (self.new ≡ self.old) }
+    {
+        self.queue.reserve((self.fresh + self.out) as usize + 1)?;
+        let standing = self.known.standing(number as usize).unwrap();
         self.known.set_standing(
             number as usize,
             Standing {
@@ -132,54 +192,32 @@ impl Frontier {
         );
         self.queue.take_first();
         self.out += 1;
+        Ok(())
     }
 
-    // Ends the claim of a number that is out with the state `standing`.
-    #[tactic(auto, using(std::proofs::lemmas::Option::slice_get_within))]
-    fn settle(&mut self, number: u32, standing: Standing)
-        requires standing { slice_get self.old.known.standings number ≡ Some standing }
-        requires some_out { 0 < self.old.out }
-        ensures { self.new ≡ after_outcome self.old number standing }
+    /// Records that a place that is out was found, and that its page dropped `dropped` mentions. The
+    /// places that were learned now wait.
+    pub fn found(&mut self, number: u32, dropped: u32)
+        requires out { is_out_at self.old.known.standings number ≡ true }
+        ensures { self.new ≡ after_find self.old number dropped }
     {
-        self.known.set_standing(
-            number as usize,
-            Standing {
-                claims: standing.claims,
-                is_out: false,
-            },
-        );
-        self.out -= 1;
-    }
-
-    /// Records that a number that is out with the state `standing` was found. The places after the
-    /// first `before` now wait.
-    pub fn found(&mut self, number: u32, standing: Standing, before: u32, dropped: u32)
-        requires standing { slice_get self.old.known.standings number ≡ Some standing }
-        requires before { before ≤ length self.old.known.places }
-        requires few_places { length self.old.known.places < 2 ^ 32 }
-        requires room { length self.old.known.places - before ≤ self.old.queue.room }
-        requires some_out { 0 < self.old.out }
-        requires few_done { self.old.done ≤ MAX_PLACES }
-        requires few_dropped { self.old.dropped + dropped < 2 ^ 64 }
-        ensures { self.new ≡ after_find self.old number standing before dropped }
-    {
-        self.settle(number, standing);
+        self.known.settle(number as usize);
+        let before = self.known.len() as u32 - self.fresh;
         self.queue.push_range(before, self.known.len() as u32);
+        self.fresh = 0;
+        self.out -= 1;
         self.done += 1;
         self.dropped += u64::from(dropped);
     }
 
-    /// Records that a number that is out with the state `standing` failed. It waits again if it was
-    /// claimed fewer than `tries` times.
-    pub fn fail(&mut self, number: u32, standing: Standing, tries: u32)
-        requires standing { slice_get self.old.known.standings number ≡ Some standing }
-        requires room { 0 < self.old.queue.room }
-        requires some_out { 0 < self.old.out }
-        requires few_done { self.old.done ≤ MAX_PLACES }
-        ensures { self.new ≡ after_failure self.old number standing tries }
+    /// Records that a place that is out could not be fetched. It waits again if it has tries left.
+    pub fn fail(&mut self, number: u32)
+        requires out { is_out_at self.old.known.standings number ≡ true }
+        ensures { self.new ≡ after_failure self.old number }
     {
-        self.settle(number, standing);
-        if standing.claims < tries {
+        let claims = self.known.settle(number as usize);
+        self.out -= 1;
+        if claims < self.tries {
             self.queue.push(number);
         } else {
             self.done += 1;

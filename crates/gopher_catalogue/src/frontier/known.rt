@@ -4,7 +4,7 @@
 ghost use Rattle.std.specs.Prelude.{◌≡◌, ◌<◌, [], ◌∷◌, ◌++◌, ◌≤◌, false, length, map, take, slice_get, IfOk, OnOk, OnErr};
 ghost use Rattle.std.specs.Arc.{arc_value};
 ghost use Rattle.gopher_item.specs.Place.{is_among};
-ghost use Rattle.gopher_catalogue.specs.Tables.{Extends, Mentions, allowed, unclaimed, with_standing};
+ghost use Rattle.gopher_catalogue.specs.Tables.{Extends, Mentions, allowed, claims_at, ended, unclaimed, with_standing};
 
 use gopher_item::{NoMemory, Place, Places, Scope};
 use gopher_text::MAX_REPLY;
@@ -99,6 +99,23 @@ impl KnownPlaces {
         ensures { self.new ≡ with_standing self.old number standing }
     {
         self.standings[number] = standing;
+    }
+
+    /// Ends the claim of the place with this number, and returns how often it was claimed.
+    pub fn settle(&mut self, number: usize) -> u32
+        requires { number < length self.old.standings }
+        ensures claims { result ≡ claims_at self.old.standings number }
+        ensures ended { self.new ≡ with_standing self.old number (ended result) }
+    {
+        let claims = self.standing(number).unwrap().claims;
+        self.set_standing(
+            number,
+            Standing {
+                claims,
+                is_out: false,
+            },
+        );
+        claims
     }
 
     /// Appends a place that was never claimed.
