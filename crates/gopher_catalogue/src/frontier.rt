@@ -195,8 +195,8 @@ impl Frontier {
         Ok(())
     }
 
-    /// Records that a place that is out was found, and that its page dropped `dropped` mentions. The
-    /// places that were learned now wait.
+    /// Records that a place that is out was found, and that its page dropped `dropped` mentions.
+    /// The places that were learned now wait.
     pub fn found(&mut self, number: u32, dropped: u32)
         requires out { is_out_at self.old.known.standings number ≡ true }
         ensures { self.new ≡ after_find self.old number dropped }
