@@ -13,7 +13,7 @@ import socket
 import sys
 import time
 
-from running.server import HOST, ask, ask_whole, connect, free_port, is_open, read_all, run_test, with_few_files
+from running.server import HOST, ask, ask_whole, connect, free_port, is_open, read_all, run_test, until_true, with_few_files
 
 FILES = {"a.txt": b"hello\n"}
 OTHER, ABSENT, REPLY = "127.0.0.2", "192.0.2.1", b"hello\r\n.\r\n"
@@ -134,8 +134,11 @@ def check_most(test):
         fails_to_listen(test, root, TOO_MANY, **handing_over(*sockets))
     with test.serving(root, "--requests", 2) as server, connect(server.port) as held:
         held.sendall(b"/a")
-        replies = [ask_whole(server.port, asked) for _ in range(2)]
-        test.expect("of the requests after which a server ends", replies, [REPLY, b"ConnectionRefusedError"])
+        replies = [ask_whole(server.port, asked)]
+        # The listener is closed after that reply, not before it.
+        until_true(lambda: replies.append(ask_whole(server.port, asked)) or replies[-1] == b"ConnectionRefusedError", 20)
+        told = (replies[0], REPLY in replies[1:], replies[-1])
+        test.expect("of the requests after which a server ends", told, (REPLY, False, b"ConnectionRefusedError"))
 
 
 def check_activation(test):

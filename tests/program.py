@@ -146,7 +146,7 @@ def error_writes(test, words, script):
 
 def check_lines(test):
     """The line of a fault goes out in one write, with its number and what it names, so that lines of two programs don't mix."""
-    root = test.site({"menus/.menu": b"0no path\n", "names/a\tb": b"hello\n", "site/a.txt": b"hello\n"})
+    root = test.site({"menus/.menu": b"1a\tb\tc\n", "names/a\tb": b"hello\n", "site/a.txt": b"hello\n"})
     script, _, line = REFUSED_START
     cases = {"": b"hole: 31 host\n", **{f'host = "{HOST}"\nroot = "{root}/{name}"\n{more}': told for name, more, told in FAULTS}}
     for text, told in cases.items():
