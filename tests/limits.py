@@ -47,7 +47,7 @@ LIMITS = (
     ("For the first 1,000 places that failed", "counted", "tests/crawling.py", "MOST_PRINTED"),
     ("the first 50", "left out", "tests/crawling.py", "MOST_HITS"),
     ("The host has 1 to 255 bytes", "3", "tests/models/worked.py", 'b"h" * 256'),
-    ("systemd hands it (`LISTEN_PID`, `LISTEN_FDS`; at most 64)", "not served", "tests/listen.py", "MOST_INHERITED + 1"),
+    ("if `LISTEN_FDS` isn't a number from 0 to 64", "81", "tests/listen.py", "MOST_INHERITED + 1"),
     ("otherwise at all addresses of its host", "not served", "tests/listen.py", "MOST_OF_HOST + 1"),
     ("May be repeated, up to 1,024 times", "2", "tests/listen.py", "MOST_NAMED"),
     ("takes one from the quota (the N of `--requests`", "refused", "tests/listen.py", "of the requests after which a server ends"),
